@@ -1,0 +1,7 @@
+// Prints worked boards, one subject after another.
+mod files;
+mod print;
+
+fn main() {
+    files::show_all();
+}

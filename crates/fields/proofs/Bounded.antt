@@ -1,0 +1,73 @@
+-- The laws of `all` and `any`: what a loop that counts up adds at each turn, and what the answer says of each number.
+use Prim.Native.Nat.{ℕ, zero, suc, _+_, _<_}
+use native.Mathlib.Nat.{eq-or-lt-of-le, le-of-suc-le-suc, not-suc-le-zero}
+use native.Mathlib.Numerals.{add-one}
+use native.Mathlib.Omega.{arith}
+use mathlib.Core.Path.{_≡_, refl, sym, ap, ap₂, _∙_}
+use mathlib.Core.Bool.{Bool, true, false, _&&_, _||_, and-false, or-true}
+use mathlib.Core.Logic.{⊎-elim}
+use Rattle.fields.specs.Bounded.{all, any}
+
+and-left : (a b : Bool) → (a && b) ≡ true → a ≡ true
+and-left true b e = refl
+and-left false b e = e
+
+and-right : (a b : Bool) → (a && b) ≡ true → b ≡ true
+and-right true b e = e
+and-right false b e = absurd (let z : _≡_ {A = ℕ} 0 1 = cc in omega arith)
+
+module _ (p : ℕ → Bool) where
+  pub all-none : all 0 p ≡ true
+  unfolding all
+  all-none = refl
+
+  pub all-more : (k : ℕ) → all k p ≡ true → p k ≡ true → all (k + 1) p ≡ true
+  unfolding all
+  all-more k h e = rw (add-one k) (ap₂ _&&_ h e)
+
+  pub all-at : (n : ℕ) → all n p ≡ true → (i : ℕ) → i < n → p i ≡ true
+  unfolding all
+  all-at zero h i l = absurd (not-suc-le-zero l)
+  all-at (suc n) h i l =
+      ⊎-elim (λ e. ap p e ∙ and-right (all n p) (p n) h) (λ m. all-at n (and-left (all n p) (p n) h) i m)
+      (eq-or-lt-of-le (le-of-suc-le-suc l))
+
+  pub all-not : (n i : ℕ) → i < n → p i ≡ false → all n p ≡ false
+  unfolding all
+  all-not zero i l e = absurd (not-suc-le-zero l)
+  all-not (suc n) i l e =
+      ⊎-elim (λ q. ap (λ (b : Bool). all n p && b) (sym (ap p q) ∙ e) ∙ and-false (all n p))
+      (λ m. ap (λ (b : Bool). b && p n) (all-not n i m e))
+      (eq-or-lt-of-le (le-of-suc-le-suc l))
+
+  pub all-of : (n : ℕ) → ((i : ℕ) → i < n → p i ≡ true) → all n p ≡ true
+  unfolding all
+  all-of zero h = refl
+  all-of (suc n) h = ap₂ _&&_ (all-of n (λ i l. h i (omega arith))) (h n (omega arith))
+
+  pub any-none : any 0 p ≡ false
+  unfolding any
+  any-none = refl
+
+  pub any-more : (k : ℕ) → any k p ≡ false → p k ≡ false → any (k + 1) p ≡ false
+  unfolding any
+  any-more k h e = rw (add-one k) (ap₂ _||_ h e)
+
+  pub any-at : (n i : ℕ) → i < n → p i ≡ true → any n p ≡ true
+  unfolding any
+  any-at zero i l e = absurd (not-suc-le-zero l)
+  any-at (suc n) i l e =
+      ⊎-elim (λ q. ap (λ (b : Bool). any n p || b) (sym (ap p q) ∙ e) ∙ or-true (any n p))
+      (λ m. ap (λ (b : Bool). b || p n) (any-at n i m e))
+      (eq-or-lt-of-le (le-of-suc-le-suc l))
+
+  pub any-found : (n : ℕ) → any n p ≡ true → (i : ℕ) × (i < n) × (p i ≡ true)
+  unfolding any
+  any-found zero e = absurd (let z : _≡_ {A = ℕ} 0 1 = cc in omega arith)
+  any-found (suc n) e = go (any n p) (p n) refl refl e (any-found n)
+    where
+      go : (a b : Bool) → any n p ≡ a → p n ≡ b → (a || b) ≡ true →
+          (any n p ≡ true → (i : ℕ) × (i < n) × (p i ≡ true)) → (i : ℕ) × (i < suc n) × (p i ≡ true)
+      go true b ea eb e ih = let r = ih ea in (r .0, omega arith, r .2)
+      go false true ea eb e ih = (n, omega arith, eb)
+      go false false ea eb e ih = absurd (let z : _≡_ {A = ℕ} 0 1 = cc in omega arith)

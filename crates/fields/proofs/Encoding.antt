@@ -1,0 +1,93 @@
+-- A file whose fields are whole is the encoding of its fields, and an encoding has just the fields that went into it.
+use Prim.Native.Nat.{ℕ, zero, suc, _+_, _-_, _/_, _%_, _≤_, _<_}
+use native.Mathlib.Nat.{div-add-mod'}
+use native.Mathlib.Numerals.{add-one, add-two, add-three}
+use native.Mathlib.Omega.{arith}
+use mathlib.Core.Path.{_≡_, refl, sym, ap, _∙_}
+use mathlib.Core.List.{List, [], _∷_, _++_, append-assoc}
+use lib.ListN.{length, getD, take, drop, length-append, length-drop, take-append-drop, drop-of-length-le}
+use lib.Seq.{drop-cons, drop-drop, length-take-le, getD-append-seam, getD-append-add, drop-append-add, take-append-seam}
+use Rattle.fields.specs.declared.Framing.the-variants.{Whole}
+use Rattle.fields.specs.declared.Step.{Step}
+use Rattle.fields.specs.declared.Step.the-variants.{Next, End, Cut}
+use Rattle.fields.specs.Fields.{Item, Fields, fieldAt, past, stepAt, valueOf, itemOf, before, fieldsFrom, fieldsOf, encoded}
+use Rattle.fields.proofs.Steps.{stands, ends, walk, step-next, step-end}
+
+-- The bytes of one field.
+abbrev bytes : Item → List ℕ
+bytes i = i .tag ∷ length (i .value) / 256 ∷ length (i .value) % 256 ∷ i .value
+
+-- A field's bytes after a prefix are read as that field, and what follows is read next.
+module _ (p : List ℕ) (i : Item) (rest : List ℕ) where
+  abbrev file : List ℕ
+  file = p ++ (bytes i ++ rest)
+
+  field : fieldAt file (length p) ≡ record { tag = i .tag; start = length p + 3; len = length (i .value) }
+  field = simp (getD-append-seam, getD-append-add, div-add-mod')
+
+  item : itemOf file (fieldAt file (length p)) ≡ i
+  unfolding valueOf
+  item =
+      ap (itemOf file) field ∙
+      simp drop-append-add (ap (λ (v : List ℕ). record { tag = i .tag; value = v }) (take-append-seam (i .value) rest))
+
+  next : fieldsFrom file (length p) ≡ before i (fieldsFrom file (length p + 3 + length (i .value)))
+  next =
+      let l : length file ≡ length p + (3 + (length (i .value) + length rest)) = simp length-append (omega arith) in
+      let e : past (fieldAt file (length p)) ≡ length p + 3 + length (i .value) = ap past field in
+      walk file (length p) (sym (step-next file (length p) (omega arith) (omega arith))) ∙ cc item
+
+-- An encoding after a prefix is read as its items.
+after : (p : List ℕ) (is : List Item) → fieldsFrom (p ++ encoded is) (length p) ≡ record { items = is; framing = Whole }
+unfolding encoded
+after p [] = walk (p ++ []) (length p) (sym (step-end (p ++ []) (length p) (simp length-append (omega arith))))
+after p (i ∷ is) =
+    let l : length (p ++ bytes i) ≡ length p + 3 + length (i .value) = simp length-append (omega arith) in
+    next p i (encoded is) ∙ ap (before i) (cc (after (p ++ bytes i) is, append-assoc p (bytes i) (encoded is)))
+
+pub of-encoded : (is : List Item) → fieldsOf (encoded is) ≡ record { items = is; framing = Whole }
+unfolding fieldsOf
+of-encoded is = after [] is
+
+-- Every element is a byte.
+abbrev pub Bytes : List ℕ → Type 0
+Bytes l = (i : ℕ) → getD l i 0 < 256
+
+module _ (file : List ℕ) (b : Bytes file) where
+  -- From a field that fits on, a file is that field's bytes and then what is past it.
+  split : (at : ℕ) → past (fieldAt file at) ≤ length file →
+      drop at file ≡ bytes (itemOf file (fieldAt file at)) ++ drop (past (fieldAt file at)) file
+  unfolding valueOf
+  split at h =
+      let f = fieldAt file at in
+      let d = drop (f .start) file in
+      let v = take (f .len) d in
+      let l : length v ≡ f .len = length-take-le (f .len) d (simp length-drop (omega arith)) in
+      let high : getD file (at + 1) 0 ≡ length v / 256 = omega (arith, b (at + 2)) in
+      let low : getD file (at + 2) 0 ≡ length v % 256 = omega (arith, b (at + 2)) in
+      let first = drop-cons file at 0 (omega arith) in
+      let second = drop-cons file (suc at) 0 (omega arith) in
+      let third = drop-cons file (suc (suc at)) 0 (omega arith) in
+      cc (add-one at, add-two at, add-three at, take-append-drop (f .len) d, drop-drop (f .len) (f .start) file)
+
+  -- From a place on, whole fields are what is left of the file.
+  from : (fuel at : ℕ) → length file - at < fuel → fieldsFrom file at .framing ≡ Whole →
+      encoded (fieldsFrom file at .items) ≡ drop at file
+  unfolding encoded
+  from zero at h w = absurd (omega arith)
+  from (suc fuel) at h w = go (from fuel) (stepAt file at) refl
+    where
+      go : ((k : ℕ) → length file - k < fuel → fieldsFrom file k .framing ≡ Whole →
+          encoded (fieldsFrom file k .items) ≡ drop k file) →
+          (s : Step) → stepAt file at ≡ s → encoded (fieldsFrom file at .items) ≡ drop at file
+      go rest (Next f c) e =
+          let s = stands file at f c e in
+          let here = walk file at e in
+          let r = rest (c .at) (omega arith) (cc) in
+          ap (λ (fs : Fields). encoded (fs .items)) here ∙ cc (split at (rw (s .is) at (s .within)))
+      go rest End e = ap (λ (fs : Fields). encoded (fs .items)) (walk file at e) ∙ sym (drop-of-length-le file (ends file at e))
+      go rest Cut e = absurd (let z : _≡_ {A = ℕ} 0 1 = cc (walk file at e) in omega arith)
+
+pub encoded-of : (file : List ℕ) → Bytes file → fieldsOf file .framing ≡ Whole → encoded (fieldsOf file .items) ≡ file
+unfolding fieldsOf
+encoded-of file b w = from file b (suc (length file)) 0 (omega arith) w

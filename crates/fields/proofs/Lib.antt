@@ -1,0 +1,5 @@
+pub mod Steps
+pub mod Walks
+pub mod Encoding
+pub mod Bounded
+pub mod Places

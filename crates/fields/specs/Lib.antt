@@ -1,0 +1,4 @@
+pub mod Fields
+pub mod Walk
+pub mod Bounded
+pub mod Header
