@@ -10,17 +10,13 @@ use lib.Seq.{drop-cons, drop-drop, length-take-le, getD-append-seam, getD-append
 use Rattle.fields.specs.declared.Framing.the-variants.{Whole}
 use Rattle.fields.specs.declared.Step.{Step}
 use Rattle.fields.specs.declared.Step.the-variants.{Next, End, Cut}
-use Rattle.fields.specs.Fields.{Item, Fields, fieldAt, past, stepAt, valueOf, itemOf, before, fieldsFrom, fieldsOf, encoded}
+use Rattle.fields.specs.Fields.{Bytes, Item, Fields, fieldAt, past, stepAt, valueOf, itemOf, before, fieldsFrom, fieldsOf, fieldBytes, encoded}
 use Rattle.fields.proofs.Steps.{stands, ends, walk, step-next, step-end}
-
--- The bytes of one field.
-abbrev bytes : Item → List ℕ
-bytes i = i .tag ∷ length (i .value) / 256 ∷ length (i .value) % 256 ∷ i .value
 
 -- A field's bytes after a prefix are read as that field, and what follows is read next.
 module _ (p : List ℕ) (i : Item) (rest : List ℕ) where
   abbrev file : List ℕ
-  file = p ++ (bytes i ++ rest)
+  file = p ++ (fieldBytes i ++ rest)
 
   field : fieldAt file (length p) ≡ record { tag = i .tag; start = length p + 3; len = length (i .value) }
   field = simp (getD-append-seam, getD-append-add, div-add-mod')
@@ -42,21 +38,17 @@ after : (p : List ℕ) (is : List Item) → fieldsFrom (p ++ encoded is) (length
 unfolding encoded
 after p [] = walk (p ++ []) (length p) (sym (step-end (p ++ []) (length p) (simp length-append (omega arith))))
 after p (i ∷ is) =
-    let l : length (p ++ bytes i) ≡ length p + 3 + length (i .value) = simp length-append (omega arith) in
-    next p i (encoded is) ∙ ap (before i) (cc (after (p ++ bytes i) is, append-assoc p (bytes i) (encoded is)))
+    let l : length (p ++ fieldBytes i) ≡ length p + 3 + length (i .value) = simp length-append (omega arith) in
+    next p i (encoded is) ∙ ap (before i) (cc (after (p ++ fieldBytes i) is, append-assoc p (fieldBytes i) (encoded is)))
 
 pub of-encoded : (is : List Item) → fieldsOf (encoded is) ≡ record { items = is; framing = Whole }
 unfolding fieldsOf
 of-encoded is = after [] is
 
--- Every element is a byte.
-abbrev pub Bytes : List ℕ → Type 0
-Bytes l = (i : ℕ) → getD l i 0 < 256
-
 module _ (file : List ℕ) (b : Bytes file) where
   -- From a field that fits on, a file is that field's bytes and then what is past it.
   split : (at : ℕ) → past (fieldAt file at) ≤ length file →
-      drop at file ≡ bytes (itemOf file (fieldAt file at)) ++ drop (past (fieldAt file at)) file
+      drop at file ≡ fieldBytes (itemOf file (fieldAt file at)) ++ drop (past (fieldAt file at)) file
   unfolding valueOf
   split at h =
       let f = fieldAt file at in

@@ -3,3 +3,4 @@ pub mod Walks
 pub mod Encoding
 pub mod Bounded
 pub mod Places
+pub mod Written

@@ -1,15 +1,18 @@
 -- Files as rows of fields: one tag byte, two length bytes (high byte first), the value.
-use Prim.Native.Nat.{ℕ, zero, suc, _+_, _*_, _/_, _%_}
+use Prim.Native.Nat.{ℕ, zero, suc, _+_, _*_, _/_, _%_, _<_}
 use mathlib.Core.Bool.{cond}
 use mathlib.Core.List.{List, [], _∷_, _++_}
 use lib.Dec.{leb}
 use lib.ListN.{length, getD, take, drop}
 use Rattle.fields.specs.declared.Field.{Field}
-use Rattle.fields.specs.declared.Cursor.{Cursor}
 use Rattle.fields.specs.declared.Step.{Step}
 use Rattle.fields.specs.declared.Step.the-variants.{Next, End, Cut}
 use Rattle.fields.specs.declared.Framing.{Framing}
 use Rattle.fields.specs.declared.Framing.the-variants.{Whole, Broken}
+
+-- Every element of a list is a byte.
+abbrev pub Bytes : List ℕ → Type 0
+Bytes l = (i : ℕ) → getD l i 0 < 256
 
 -- A two-byte number, its high byte first.
 abbrev pub numberOf : ℕ → ℕ → ℕ
@@ -70,7 +73,9 @@ unfoldable pub fieldsOf : List ℕ → Fields
 fieldsOf file = fieldsFrom file 0
 
 -- The bytes of a field, and of a row of them.
+abbrev pub fieldBytes : Item → List ℕ
+fieldBytes i = i .tag ∷ length (i .value) / 256 ∷ length (i .value) % 256 ∷ i .value
+
 unfoldable pub encoded : List Item → List ℕ
 encoded [] = []
-encoded (i ∷ is) =
-    (i .tag ∷ length (i .value) / 256 ∷ length (i .value) % 256 ∷ []) ++ (i .value ++ encoded is)
+encoded (i ∷ is) = fieldBytes i ++ encoded is

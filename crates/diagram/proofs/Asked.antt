@@ -1,0 +1,101 @@
+-- Questions 5 to 8 as the code asks them, over the widths and the edges of a diagram.
+use Prim.Native.Nat.{ℕ, zero, suc, _+_, _*_, _-_, _≤_, _<_}
+use native.Mathlib.Nat.{zero-add}
+use native.Mathlib.Numerals.{add-one}
+use native.Mathlib.Omega.{arith}
+use mathlib.Core.Path.{_≡_, refl, sym, ap, ap₂, _∙_, fun-ext}
+use mathlib.Core.Bool.{Bool, _&&_, cond, and-true, and-assoc}
+use mathlib.Core.List.{List}
+use borrow.Author.Tests.{lt-ltb}
+use lib.Dec.{ltb}
+use lib.ListN.{getD}
+use Rattle.fields.specs.Bounded.{all, any}
+use Rattle.diagram.specs.declared.Diagram.{Diagram}
+use Rattle.diagram.specs.declared.sound.Range.the-variants.{Within, Outside}
+use Rattle.diagram.specs.declared.sound.Twins.the-variants.{Absent, Present}
+use Rattle.diagram.specs.declared.sound.Numbering.the-variants.{InTurn, OutOfTurn}
+use Rattle.diagram.specs.declared.sound.Branching.the-variants.{Throughout, Missing}
+use Rattle.diagram.specs.Bytes.{isBelow, isInTurn, isUnlike, isFork}
+use Rattle.diagram.specs.Diagram.{width, edgeAt, root}
+use Rattle.diagram.specs.Questions.{Sized, inRange, distinct, mention, mentions, inTurn, numbered, branching}
+use Rattle.diagram.specs.Table.{rangeOf, twinsOf, numberingOf, branchingOf}
+
+all-agree : (n : ℕ) (p q : ℕ → Bool) → ((i : ℕ) → i < n → p i ≡ q i) → all n p ≡ all n q
+unfolding all
+all-agree zero p q h = refl
+all-agree (suc n) p q h = ap₂ _&&_ (all-agree n p q (λ i l. h i (omega arith))) (h n (omega arith))
+
+pub width-is : (d : Diagram) (l : ℕ) → l < d .contacts → getD (d .widths) l 0 ≡ width d l
+unfolding width
+width-is d l h = simp (lt-ltb _ _ h)
+
+pub width-small : (d : Diagram) → Sized d → (l : ℕ) → l < d .contacts → getD (d .widths) l 0 ≤ 8
+width-small d s l h = rw (width-is d l h) (s .widths l h .1)
+
+-- Question 8 of one level.
+abbrev pub forksAt : List ℕ → List ℕ → ℕ → Bool
+forksAt widths edges l = any (getD widths l 0) (isFork edges (l * 16))
+
+branching-is : (d : Diagram) → all (d .contacts) (forksAt (d .widths) (d .edges)) ≡ branching d
+unfolding branching edgeAt
+branching-is d = all-agree (d .contacts) _ _ (λ l h. ap (λ (w : ℕ). any w (isFork (d .edges) (l * 16))) (width-is d l h))
+
+pub branching-by : (d : Diagram) (b : Bool) → b ≡ all (d .contacts) (forksAt (d .widths) (d .edges)) →
+    cond b Throughout Missing ≡ branchingOf d
+branching-by d b e = ap (λ (t : Bool). cond t Throughout Missing) (e ∙ branching-is d)
+
+-- Question 6 of one level.
+abbrev pub unlikeAt : List ℕ → List ℕ → ℕ → Bool
+unlikeAt widths edges l = all (getD widths l 0) (λ v. all v (isUnlike edges (l * 16) v))
+
+distinct-is : (d : Diagram) → all (d .contacts) (unlikeAt (d .widths) (d .edges)) ≡ distinct d
+unfolding distinct edgeAt
+distinct-is d = all-agree (d .contacts) _ _ (λ l h. ap (λ (w : ℕ). all w (λ v. all v (isUnlike (d .edges) (l * 16) v))) (width-is d l h))
+
+pub twins-by : (d : Diagram) (b : Bool) → b ≡ all (d .contacts) (unlikeAt (d .widths) (d .edges)) → cond b Absent Present ≡ twinsOf d
+twins-by d b e = ap (λ (t : Bool). cond t Absent Present) (e ∙ distinct-is d)
+
+-- Question 5 of the output list, and of the edges of one level.
+abbrev pub widthIn : List ℕ → ℕ → ℕ → ℕ
+widthIn widths n l = cond (ltb l n) (getD widths l 0) 2
+
+abbrev pub belowAt : ℕ → List ℕ → List ℕ → ℕ → Bool
+belowAt n widths edges l = all (2 * getD widths l 0) (isBelow edges (l * 16) (widthIn widths n (l + 1)))
+
+range-is : (d : Diagram) →
+    (all (d .outputs) (isBelow (d .roots) 0 (widthIn (d .widths) (d .contacts) 0)) && all (d .contacts) (belowAt (d .contacts) (d .widths) (d .edges)))
+    ≡ inRange d
+unfolding inRange edgeAt root width
+range-is d =
+    ap₂ _&&_ (all-agree (d .outputs) _ _ (λ k h. ap (λ (i : ℕ). ltb (getD (d .roots) i 0) (widthIn (d .widths) (d .contacts) 0)) (zero-add k)))
+    (all-agree (d .contacts) _ _ (λ l h.
+    ap₂ (λ (w m : ℕ). all (2 * w) (isBelow (d .edges) (l * 16) m)) (width-is d l h) (ap (widthIn (d .widths) (d .contacts)) (add-one l))))
+
+pub range-by : (d : Diagram) (a b : Bool) → a ≡ all (d .outputs) (isBelow (d .roots) 0 (widthIn (d .widths) (d .contacts) 0)) →
+    b ≡ all (d .contacts) (belowAt (d .contacts) (d .widths) (d .edges)) → cond (a && b) Within Outside ≡ rangeOf d
+range-by d a b e f = ap (λ (t : Bool). cond t Within Outside) (ap₂ _&&_ e f ∙ range-is d)
+
+-- Question 7 of the levels past the first.
+abbrev pub turnAt : List ℕ → List ℕ → ℕ → Bool
+turnAt widths edges l = isInTurn edges (l * 16) (2 * getD widths l 0) (getD widths (l + 1) 0)
+
+all-front : (n : ℕ) (p : ℕ → Bool) → (p 0 && all n (λ i. p (suc i))) ≡ all (suc n) p
+unfolding all
+all-front zero p = and-true (p 0)
+all-front (suc n) p = sym (and-assoc (p 0) (all n (λ i. p (suc i))) (p (suc n))) ∙ ap (λ (b : Bool). b && p (suc n)) (all-front n p)
+
+numbered-is : (d : Diagram) → Sized d →
+    (isInTurn (d .roots) 0 (d .outputs) (getD (d .widths) 0 0) && all (d .contacts - 1) (turnAt (d .widths) (d .edges))) ≡ numbered d
+unfolding numbered mention mentions edgeAt root
+numbered-is d s =
+    let n : d .contacts ≡ suc (d .contacts - 1) = let c = s .contacts in omega arith in
+    ap₂ _&&_
+    (ap₂ (λ (f : ℕ → ℕ) (w : ℕ). inTurn f (d .outputs) w) (fun-ext (λ k. ap (λ (i : ℕ). getD (d .roots) i 0) (zero-add k))) (width-is d 0 (omega arith)))
+    (all-agree (d .contacts - 1) _ _ (λ l h.
+    ap₂ (λ (w m : ℕ). isInTurn (d .edges) (l * 16) (2 * w) m) (width-is d l (omega arith)) (ap (λ (i : ℕ). getD (d .widths) i 0) (add-one l) ∙ width-is d (suc l) (omega arith))))
+    ∙ all-front (d .contacts - 1) (λ l. inTurn (mention d l) (mentions d l) (width d l))
+    ∙ ap (λ (k : ℕ). all k (λ l. inTurn (mention d l) (mentions d l) (width d l))) (sym n)
+
+pub numbering-by : (d : Diagram) → Sized d → (a b : Bool) → a ≡ isInTurn (d .roots) 0 (d .outputs) (getD (d .widths) 0 0) →
+    b ≡ all (d .contacts - 1) (turnAt (d .widths) (d .edges)) → cond (a && b) InTurn OutOfTurn ≡ numberingOf d
+numbering-by d s a b e f = ap (λ (t : Bool). cond t InTurn OutOfTurn) (ap₂ _&&_ e f ∙ numbered-is d s)

@@ -1,0 +1,81 @@
+-- `sound::ask_branching` meets its contract. The loop's invariant: the levels passed have a node whose edges differ.
+use borrow.Author.Needs.{needs}
+use borrow.Author.Tests.{not-true, not-false}
+use native.Mathlib.Omega.{arith}
+use Prim.Native.Nat.{_-_, _≤_}
+use mathlib.Core.Path.{_≡_, sym, _∙_}
+use mathlib.Core.Bool.{true, false}
+use Rattle.fields.specs.Bounded.{all}
+use Rattle.fields.proofs.Bounded.{all-none, all-more}
+use Rattle.diagram.proofs.Asked.{width-small, forksAt, branching-by}
+use Rattle.diagram.proofs.Loops.{all-end, all-broken}
+use Rattle.diagram.proofs.sound.ask_branching.Statement.{statement}
+use Rattle.diagram.proofs.sound.ask_branching.Tie as tie
+
+abbrev Inv-loop : tie.InvT-loop
+Inv-loop widths edges l₀ l-end l = (l ≤ l-end) × (all l (forksAt widths edges) ≡ true)
+
+abbrev μ-loop : tie.MeasureT-loop
+μ-loop widths edges l₀ l-end l = l-end - l
+
+loop-holds : tie.Need-loop-holds Inv-loop μ-loop
+loop-holds c = (omega arith, all-none _)
+
+slice-aggregate-forks : tie.Need-slice-aggregate-forks Inv-loop μ-loop
+slice-aggregate-forks c = search needs
+
+mul-forks : tie.Need-mul-forks Inv-loop μ-loop
+mul-forks c = search needs
+
+mul-forks-2 : tie.Need-mul-forks-2 Inv-loop μ-loop
+mul-forks-2 c = search needs
+
+array-read-forks : tie.Need-array-read-forks Inv-loop μ-loop
+array-read-forks c = search needs
+
+forks-requires : tie.Need-forks-requires Inv-loop μ-loop
+forks-requires c κs =
+    let start = c .before .before .before .before .before in
+    let l = c .before .before .loop .l in
+    let w = width-small (start .args .d) (start .pre) l (c .before .loop-test .taken) in
+    omega (arith, start .pre .contacts, slice-aggregate-forks c)
+
+returns : tie.Need-returns Inv-loop μ-loop
+returns c =
+    let loop = c .before .before .before .before .loop in
+    let e = sym (c .before .forks .ensures) ∙ not-true _ (c .if1 .taken) in
+    branching-by (c .before .before .before .before .before .before .before .args .d) false (all-broken _ _ (loop .l) (c .before .before .before .loop-test .taken) e)
+
+add-l : tie.Need-add-l Inv-loop μ-loop
+add-l c = search needs
+
+loop-less : tie.Need-loop-less Inv-loop μ-loop
+loop-less c = search needs
+
+loop-again : tie.Need-loop-again Inv-loop μ-loop
+loop-again c =
+    let loop = c .before .before .before .before .loop in
+    (omega arith, all-more _ (loop .l) (loop .inv .1) (sym (c .before .forks .ensures) ∙ not-false _ (c .if1 .left)))
+
+returns-2 : tie.Need-returns-2 Inv-loop μ-loop
+returns-2 c =
+    let loop = c .before .loop in
+    branching-by (c .before .before .before .before .args .d) true (all-end _ _ (loop .l) (loop .inv .0) (c .loop-test .left) (loop .inv .1))
+
+pub ask-branching-spec : {M : Type 1} → statement M
+ask-branching-spec =
+    tie.close
+    (tie.spec
+    Inv-loop
+    μ-loop
+    loop-holds
+    slice-aggregate-forks
+    mul-forks
+    mul-forks-2
+    array-read-forks
+    forks-requires
+    returns
+    add-l
+    loop-less
+    loop-again
+    returns-2)

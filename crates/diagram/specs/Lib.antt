@@ -1,0 +1,7 @@
+pub mod Bytes
+pub mod Diagram
+pub mod Questions
+pub mod Table
+pub mod Encode
+pub mod Promises
+pub mod Starred

@@ -1,0 +1,188 @@
+// Questions 5 to 8, about a decoded diagram.
+use crate::Diagram;
+ghost use mathlib.Core.Path.{_≡_};
+ghost use mathlib.Core.Bool.{cond};
+ghost use Prim.Native.Nat.{_+_, _*_, _≤_, _<_};
+ghost use lib.Dec.{ltb};
+ghost use lib.ListN.{length, getD};
+ghost use Rattle.fields.specs.Bounded.{all, any};
+ghost use Rattle.diagram.specs.Bytes.{isBelow, isInTurn, isUnlike, isFork};
+ghost use Rattle.diagram.specs.Questions.{Sized};
+ghost use Rattle.diagram.specs.Table.{rangeOf, twinsOf, numberingOf, branchingOf};
+
+// Question 5's answer.
+pub enum Range {
+    Within,
+    Outside,
+}
+
+// Question 6's answer: where two nodes of one level are alike.
+pub enum Twins {
+    Absent,
+    Present,
+}
+
+// Question 7's answer.
+pub enum Numbering {
+    InTurn,
+    OutOfTurn,
+}
+
+// Question 8's answer.
+pub enum Branching {
+    Throughout,
+    Missing,
+}
+
+// The number of nodes of a level of n; level n has two.
+fn width(widths: &[usize], n: usize, level: usize) -> usize
+    requires { ⌜ n ≤ length (now widths) ⌝ }
+    ensures { λ r. ⌜ r ≡ cond (ltb level n) (getD (now (widths .entry)) level 0) 2 ⌝ }
+{
+    if level < n { widths[level] } else { 2 }
+}
+
+// Whether so many bytes from a place on are below a bound.
+fn below(bytes: &[u8], from: usize, count: usize, bound: usize) -> bool
+    requires { ⌜ from + count ≤ length (now bytes) ⌝ }
+    ensures { λ r. ⌜ r ≡ all count (isBelow (now (bytes .entry)) from bound) ⌝ }
+{
+    for k in 0..count {
+        if bound <= bytes[from + k] as usize {
+            return false;
+        }
+    }
+    true
+}
+
+// Question 5: does every edge and output name a node that its level has?
+pub fn ask_range(d: Diagram) -> Range
+    requires { ⌜ Sized d ⌝ }
+    ensures { λ r. ⌜ r ≡ rangeOf d ⌝ }
+{
+    let n = d.contacts;
+    let roots = d.roots;
+    let widths = d.widths;
+    let edges = d.edges;
+    if !below(&roots, 0, d.outputs, width(&widths, n, 0)) {
+        return Range::Outside;
+    }
+    for l in 0..n {
+        let next = width(&widths, n, l + 1);
+        if !below(&edges, l * 16, 2 * widths[l], next) {
+            return Range::Outside;
+        }
+    }
+    Range::Within
+}
+
+// Whether a node's edges, two bytes at v, are those of none of the nodes before it, whose edges stand from a place on.
+fn unlike(edges: &[u8], from: usize, v: usize) -> bool
+    requires { ⌜ from + 2 * v + 1 < length (now edges) ⌝ }
+    ensures { λ r. ⌜ r ≡ all v (isUnlike (now (edges .entry)) from v) ⌝ }
+{
+    let zero = edges[from + 2 * v];
+    let one = edges[from + (2 * v + 1)];
+    for u in 0..v {
+        if edges[from + 2 * u] == zero {
+            if edges[from + (2 * u + 1)] == one {
+                return false;
+            }
+        }
+    }
+    true
+}
+
+// Whether no two of so many nodes, whose edges stand from a place on, are alike.
+fn all_unlike(edges: &[u8], from: usize, nodes: usize) -> bool
+    requires { ⌜ from + 2 * nodes ≤ length (now edges) ⌝ }
+    ensures { λ r. ⌜ r ≡ all nodes (λ v. all v (isUnlike (now (edges .entry)) from v)) ⌝ }
+{
+    for v in 0..nodes {
+        if !unlike(edges, from, v) {
+            return false;
+        }
+    }
+    true
+}
+
+// Question 6: does each pair of nodes of one level differ in an edge?
+pub fn ask_twins(d: Diagram) -> Twins
+    requires { ⌜ Sized d ⌝ }
+    ensures { λ r. ⌜ r ≡ twinsOf d ⌝ }
+{
+    let widths = d.widths;
+    let edges = d.edges;
+    for l in 0..d.contacts {
+        if !all_unlike(&edges, l * 16, widths[l]) {
+            return Twins::Present;
+        }
+    }
+    Twins::Absent
+}
+
+// Whether so many bytes from a place on each mention a node mentioned before or the next number, and mention so many nodes.
+fn in_turn(bytes: &[u8], from: usize, count: usize, nodes: usize) -> bool
+    requires { ⌜ from + count ≤ length (now bytes) ⌝ }
+    ensures { λ r. ⌜ r ≡ isInTurn (now (bytes .entry)) from count nodes ⌝ }
+{
+    let mut next: usize = 0;
+    for k in 0..count {
+        let node = bytes[from + k] as usize;
+        if next < node {
+            return false;
+        }
+        if node == next {
+            next += 1;
+        }
+    }
+    next == nodes
+}
+
+// Question 7: are nodes numbered by first mention, and all mentioned?
+pub fn ask_numbering(d: Diagram) -> Numbering
+    requires { ⌜ Sized d ⌝ }
+    ensures { λ r. ⌜ r ≡ numberingOf d ⌝ }
+{
+    let roots = d.roots;
+    let widths = d.widths;
+    let edges = d.edges;
+    if !in_turn(&roots, 0, d.outputs, widths[0]) {
+        return Numbering::OutOfTurn;
+    }
+    let last = d.contacts - 1;
+    for l in 0..last {
+        if !in_turn(&edges, l * 16, 2 * widths[l], widths[l + 1]) {
+            return Numbering::OutOfTurn;
+        }
+    }
+    Numbering::InTurn
+}
+
+// Whether some of so many nodes, whose edges stand from a place on, has two different ones.
+fn forks(edges: &[u8], from: usize, nodes: usize) -> bool
+    requires { ⌜ from + 2 * nodes ≤ length (now edges) ⌝ }
+    ensures { λ r. ⌜ r ≡ any nodes (isFork (now (edges .entry)) from) ⌝ }
+{
+    for u in 0..nodes {
+        if edges[from + 2 * u] != edges[from + (2 * u + 1)] {
+            return true;
+        }
+    }
+    false
+}
+
+// Question 8: has every level a node whose edges differ?
+pub fn ask_branching(d: Diagram) -> Branching
+    requires { ⌜ Sized d ⌝ }
+    ensures { λ r. ⌜ r ≡ branchingOf d ⌝ }
+{
+    let widths = d.widths;
+    let edges = d.edges;
+    for l in 0..d.contacts {
+        if !forks(&edges, l * 16, widths[l]) {
+            return Branching::Missing;
+        }
+    }
+    Branching::Throughout
+}

@@ -1,0 +1,164 @@
+-- The file of a netlist reads back as that netlist, and a sound netlist's file passes questions 11 and 12.
+use borrow.Author.Tests.{eq-eqb, le-leb}
+use native.Mathlib.Nat.{div-add-mod', not-suc-le-zero}
+use native.Mathlib.Omega.{arith}
+use Prim.Native.Nat.{ℕ, zero, suc, _+_, _*_, _/_, _%_, _≤_, _<_}
+use mathlib.Core.Path.{_≡_, refl, sym, ap, ap₂, _∙_}
+use mathlib.Core.Bool.{true, _&&_}
+use mathlib.Core.List.{List, [], _∷_, _++_, flatMap}
+use lib.ListN.{length, getD, length-append}
+use lib.Seq.{ext-getD, getD-append-add}
+use Rattle.fields.specs.declared.Framing.the-variants.{Whole}
+use Rattle.fields.specs.Fields.{Item, Fields, fieldsOf, encoded}
+use Rattle.fields.specs.Header.{contactsIn, firstNo}
+use Rattle.fields.proofs.Bounded.{all-of}
+use Rattle.fields.proofs.Encoding.{of-encoded}
+use Rattle.netlist.specs.declared.Gate.{Gate}
+use Rattle.netlist.specs.declared.Pair.{Pair}
+use Rattle.netlist.specs.declared.form.Form.the-variants.{Formed}
+use Rattle.netlist.specs.Netlist.{Netlist, gateLine, gateAt, pairAt, gatesOf, pairsOf, gateBytes, pairBytes, fileOf}
+use Rattle.netlist.specs.Service.{isGate, isPair, hasParts, areParts, formOf, isSound, netlistOf, netlistRefusal}
+use Rattle.netlist.proofs.Forms.{formed}
+use Rattle.netlist.proofs.Lists.{length-gates, getD-gates, length-pairs, getD-pairs}
+use Rattle.netlist.proofs.Tests.{on-gate, in-pair, Bounds, Wired, Shown}
+
+-- What stands past a first part.
+past : (xs rest : List ℕ) (j k : ℕ) → j ≡ length xs + k → getD (xs ++ rest) j 0 ≡ getD rest k 0
+past xs rest j k e = ap (λ (i : ℕ). getD (xs ++ rest) i 0) e ∙ getD-append-add xs rest k 0
+
+-- The gates' bytes.
+pub length-gate-bytes : (gs : List Gate) → length (flatMap gateBytes gs) ≡ 5 * length gs
+unfolding flatMap
+length-gate-bytes [] = refl
+length-gate-bytes (g ∷ gs) = omega (arith, length-gate-bytes gs)
+
+gate-past : (m : Gate) (rest : List ℕ) (g : ℕ) → gateAt (gateBytes m ++ rest) (suc g) ≡ gateAt rest g
+gate-past m rest g =
+    let xs = gateBytes m in
+    cc (
+      past xs rest (5 * suc g) (5 * g) (omega arith),
+      past xs rest (5 * suc g + 1) (5 * g + 1) (omega arith),
+      past xs rest (5 * suc g + 1 + 1) (5 * g + 1 + 1) (omega arith),
+      past xs rest (5 * suc g + 3) (5 * g + 3) (omega arith),
+      past xs rest (5 * suc g + 3 + 1) (5 * g + 3 + 1) (omega arith),
+    )
+
+pub gate-back : (gs : List Gate) (g : ℕ) (d : Gate) → g < length gs → gateAt (flatMap gateBytes gs) g ≡ getD gs g d
+unfolding flatMap
+gate-back [] g d h = absurd (not-suc-le-zero h)
+gate-back (m ∷ gs) zero d h = simp div-add-mod'
+gate-back (m ∷ gs) (suc g) d h = gate-past m (flatMap gateBytes gs) g ∙ gate-back gs g d (omega arith)
+
+abbrev no-gate : Gate
+no-gate = record { kind = 0; left = 0; right = 0 }
+
+pub gates-back : (gs : List Gate) → gatesOf (flatMap gateBytes gs) ≡ gs
+gates-back gs =
+    let v = flatMap gateBytes gs in
+    let b = length-gate-bytes gs in
+    let l : length (gatesOf v) ≡ length gs = omega (arith, length-gates v) in
+    ext-getD no-gate (gatesOf v) gs l
+    (λ g h. getD-gates v g no-gate (omega arith) ∙ gate-back gs g no-gate (omega arith))
+
+-- The outputs' bytes.
+pub length-pair-bytes : (ps : List Pair) → length (flatMap pairBytes ps) ≡ 4 * length ps
+unfolding flatMap
+length-pair-bytes [] = refl
+length-pair-bytes (p ∷ ps) = omega (arith, length-pair-bytes ps)
+
+pair-past : (p : Pair) (rest : List ℕ) (j : ℕ) → pairAt (pairBytes p ++ rest) (suc j) ≡ pairAt rest j
+pair-past p rest j =
+    let xs = pairBytes p in
+    cc (
+      past xs rest (4 * suc j) (4 * j) (omega arith),
+      past xs rest (4 * suc j + 1) (4 * j + 1) (omega arith),
+      past xs rest (4 * suc j + 2) (4 * j + 2) (omega arith),
+      past xs rest (4 * suc j + 2 + 1) (4 * j + 2 + 1) (omega arith),
+    )
+
+pub pair-back : (ps : List Pair) (j : ℕ) (d : Pair) → j < length ps → pairAt (flatMap pairBytes ps) j ≡ getD ps j d
+unfolding flatMap
+pair-back [] j d h = absurd (not-suc-le-zero h)
+pair-back (p ∷ ps) zero d h = simp div-add-mod'
+pair-back (p ∷ ps) (suc j) d h = pair-past p (flatMap pairBytes ps) j ∙ pair-back ps j d (omega arith)
+
+abbrev no-pair : Pair
+no-pair = record { on = 0; off = 0 }
+
+pub pairs-back : (ps : List Pair) → pairsOf (flatMap pairBytes ps) ≡ ps
+pairs-back ps =
+    let v = flatMap pairBytes ps in
+    let b = length-pair-bytes ps in
+    let l : length (pairsOf v) ≡ length ps = omega (arith, length-pairs v) in
+    ext-getD no-pair (pairsOf v) ps l
+    (λ j h. getD-pairs v j no-pair (omega arith) ∙ pair-back ps j no-pair (omega arith))
+
+abbrev with-parts : ℕ → List Gate → List Pair → Netlist
+with-parts n gs ps = record { contacts = n; gates = gs; pairs = ps }
+
+module _ (net : Netlist) where
+  abbrev pub itemsOf : List Item
+  itemsOf =
+      record { tag = 1; value = net .contacts ∷ [] }
+      ∷ record { tag = 4; value = flatMap gateBytes (net .gates) }
+      ∷ record { tag = 5; value = flatMap pairBytes (net .pairs) }
+      ∷ []
+
+  pub file-fields : fieldsOf (fileOf net) ≡ record { items = itemsOf; framing = Whole }
+  unfolding fileOf
+  file-fields = of-encoded itemsOf
+
+  pub file-length : length (fileOf net) ≡ 10 + 5 * length (net .gates) + 4 * length (net .pairs)
+  unfolding fileOf encoded
+  file-length =
+      simp length-append (omega (arith, length-gate-bytes (net .gates), length-pair-bytes (net .pairs)))
+
+  items-back : netlistOf itemsOf ≡ net
+  unfolding netlistOf
+  items-back = ap₂ (with-parts (net .contacts)) (gates-back (net .gates)) (pairs-back (net .pairs))
+
+  pub reads-back : netlistOf (fieldsOf (fileOf net) .items) ≡ net
+  reads-back = ap (λ (fs : Fields). netlistOf (fs .items)) file-fields ∙ items-back
+
+-- Different netlists have different files.
+pub file-determines : (a b : Netlist) → fileOf a ≡ fileOf b → a ≡ b
+file-determines a b e = sym (reads-back a) ∙ ap (λ (f : List ℕ). netlistOf (fieldsOf f .items)) e ∙ reads-back b
+
+whole-parts : (tag size low high : ℕ) (v : List ℕ) → length v % size ≡ 0 → low ≤ length v / size → length v / size ≤ high →
+    hasParts tag size low high (record { tag = tag; value = v }) ≡ true
+whole-parts tag size low high v w l m = simp (eq-eqb tag tag refl, eq-eqb _ _ w, le-leb _ _ l, le-leb _ _ m)
+
+module _ (net : Netlist) (b : Bounds net) where
+  items-formed : Formed (net .contacts) ≡ formOf (record { items = itemsOf net; framing = Whole })
+  unfolding contactsIn areParts
+  items-formed =
+      let g = length-gate-bytes (net .gates) in
+      let p = length-pair-bytes (net .pairs) in
+      formed (record { items = itemsOf net; framing = Whole }) refl
+      (simp (le-leb _ _ (b .least), le-leb _ _ (b .most)))
+      (ap₂ _&&_ (whole-parts 4 5 0 10560 (flatMap gateBytes (net .gates)) (omega arith) (omega arith) (omega arith))
+      (whole-parts 5 4 1 8 (flatMap pairBytes (net .pairs)) (omega arith) (omega arith) (omega arith)))
+
+  pub file-formed : formOf (fieldsOf (fileOf net)) ≡ Formed (net .contacts)
+  file-formed = ap formOf (file-fields net) ∙ sym items-formed
+
+  module _ (wired : Wired net) (shown : Shown net) where
+    bytes-sound : isSound (net .contacts) (flatMap gateBytes (net .gates)) (flatMap pairBytes (net .pairs)) ≡ true
+    unfolding isSound
+    bytes-sound =
+        let v = flatMap gateBytes (net .gates) in
+        let u = flatMap pairBytes (net .pairs) in
+        let g = length-gate-bytes (net .gates) in
+        let p = length-pair-bytes (net .pairs) in
+        let k : length v / 5 ≡ length (net .gates) = omega arith in
+        ap₂ _&&_
+        (all-of (λ i. isGate (gateLine (net .contacts) + i) (gateAt v i)) (length v / 5)
+        (λ i h. ap (isGate (gateLine (net .contacts) + i)) (gate-back (net .gates) i no-gate (omega arith))
+        ∙ on-gate _ _ (wired i no-gate (omega arith))))
+        (all-of (λ j. isPair (gateLine (net .contacts) + length v / 5) (pairAt u j)) (length u / 4)
+        (λ j h. ap₂ isPair (ap (λ (l : ℕ). gateLine (net .contacts) + l) k) (pair-back (net .pairs) j no-pair (omega arith))
+        ∙ in-pair _ _ (shown j no-pair (omega arith))))
+
+    pub file-accepted : netlistRefusal (fileOf net) ≡ 0
+    unfolding netlistRefusal firstNo
+    file-accepted = rw (file-formed, file-fields net, bytes-sound)

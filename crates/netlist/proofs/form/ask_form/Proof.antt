@@ -1,0 +1,61 @@
+-- `form::ask_form` meets its contract: each answer is the case that the answers before it lead to.
+use borrow.Author.Needs.{needs}
+use borrow.Author.Tests.{not-true, not-false}
+use mathlib.Core.Path.{sym, _∙_}
+use Rattle.netlist.proofs.Forms.{broken, uncounted, misparted, formed}
+use Rattle.netlist.proofs.form.ask_form.Statement.{statement}
+use Rattle.netlist.proofs.form.ask_form.Tie as tie
+
+whole-requires : tie.Need-whole-requires
+whole-requires c κs = search needs
+
+enum-told : tie.Need-enum-told
+enum-told c = search needs
+
+enum-told-2 : tie.Need-enum-told-2
+enum-told-2 c = search needs
+
+returns : tie.Need-returns
+returns c = broken _ (sym (c .before .before .whole .ensures) ∙ c .enum-told2 .given .1)
+
+count-contacts-requires : tie.Need-count-contacts-requires
+count-contacts-requires c κs = search needs
+
+enum-known-n : tie.Need-enum-known-n
+enum-known-n c = search needs
+
+enum-told-3 : tie.Need-enum-told-3
+enum-told-3 c = search needs
+
+returns-2 : tie.Need-returns-2
+returns-2 c = uncounted _ (sym (c .before .before .count-contacts .ensures) ∙ c .enum-told3 .given .1)
+
+are-parts-requires : tie.Need-are-parts-requires
+are-parts-requires c κs = search needs
+
+returns-3 : tie.Need-returns-3
+returns-3 c = misparted _ (sym (c .before .are-parts .ensures) ∙ not-true _ (c .if1 .taken))
+
+returns-4 : tie.Need-returns-4
+returns-4 c =
+    let count = c .before .before .before in
+    let whole = count .before .before .before in
+    formed _ (sym (whole .before .before .whole .ensures) ∙ whole .enum-told .given .1)
+    (sym (count .before .before .count-contacts .ensures) ∙ count .n .given .1)
+    (sym (c .before .are-parts .ensures) ∙ not-false _ (c .if1 .left))
+
+pub ask-form-spec : {M : Type 1} → statement M
+ask-form-spec =
+    tie.close
+    (tie.spec
+    whole-requires
+    enum-told
+    enum-told-2
+    returns
+    count-contacts-requires
+    enum-known-n
+    enum-told-3
+    returns-2
+    are-parts-requires
+    returns-3
+    returns-4)

@@ -1,0 +1,54 @@
+-- `wiring::ask_wiring` meets its contract, by what the two tests ensure.
+use borrow.Author.Needs.{needs}
+use borrow.Author.Tests.{not-true, not-false}
+use mathlib.Core.Path.{sym, _∙_}
+use mathlib.Core.Bool.{and-false}
+use Rattle.netlist.specs.Service.{isSound}
+use Rattle.netlist.proofs.wiring.ask_wiring.Statement.{statement}
+use Rattle.netlist.proofs.wiring.ask_wiring.Tie as tie
+
+mul-first : tie.Need-mul-first
+mul-first c = search needs
+
+add-first : tie.Need-add-first
+add-first c = search needs
+
+gates-sound-requires : tie.Need-gates-sound-requires
+gates-sound-requires c κs = search needs
+
+returns : tie.Need-returns
+unfolding isSound
+returns c = simp (sym (c .before .gates-sound .ensures) ∙ not-true _ (c .if1 .taken))
+
+add-pairs-sound : tie.Need-add-pairs-sound
+add-pairs-sound c = search needs
+
+pairs-sound-requires : tie.Need-pairs-sound-requires
+pairs-sound-requires c κs = search needs
+
+returns-2 : tie.Need-returns-2
+unfolding isSound
+returns-2 c =
+    simp (sym (c .before .pairs-sound .ensures) ∙ not-true _ (c .if2 .taken), and-false)
+
+returns-3 : tie.Need-returns-3
+unfolding isSound
+returns-3 c =
+    let gates = c .before .before in
+    simp (
+      sym (gates .before .gates-sound .ensures) ∙ not-false _ (gates .if1 .left),
+      sym (c .before .pairs-sound .ensures) ∙ not-false _ (c .if2 .left),
+    )
+
+pub ask-wiring-spec : {M : Type 1} → statement M
+ask-wiring-spec =
+    tie.close
+    (tie.spec
+    mul-first
+    add-first
+    gates-sound-requires
+    returns
+    add-pairs-sound
+    pairs-sound-requires
+    returns-2
+    returns-3)

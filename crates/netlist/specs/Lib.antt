@@ -1,0 +1,4 @@
+pub mod Netlist
+pub mod Run
+pub mod Service
+pub mod Walk

@@ -1,0 +1,118 @@
+// Question 11, and the parts of a netlist file.
+use crate::Gate;
+use crate::Hold;
+use crate::Pair;
+use fields::Contacts;
+use fields::Cursor;
+use fields::Field;
+use fields::Framing;
+use fields::Step;
+ghost use mathlib.Core.Path.{_≡_};
+ghost use Prim.Native.Nat.{_+_, _*_, _≤_, _<_};
+ghost use lib.ListN.{length, drop};
+ghost use Rattle.fields.specs.Fields.{fieldsOf, itemOf};
+ghost use Rattle.netlist.specs.Netlist.{gateAt, pairAt, holdAt, numberAt};
+ghost use Rattle.netlist.specs.Service.{formOf, hasParts, areParts};
+
+// Question 11's answer: the count of contacts.
+pub enum Form {
+    Formed(usize),
+    Unformed,
+}
+
+// Whether a field has a tag, and a value of whole parts of a size, so many at least and at most.
+fn has_parts(file: &[u8], field: Field, tag: u8, size: usize, least: usize, most: usize) -> bool
+    requires { ⌜ 0 < size ⌝ }
+    ensures { λ r. ⌜ r ≡ hasParts tag size least most (itemOf (now (file .entry)) field) ⌝ }
+{
+    let found = field.tag;
+    let len = fields::value(file, field).len();
+    if found != tag {
+        return false;
+    }
+    if len % size != 0 {
+        return false;
+    }
+    if len / size < least {
+        return false;
+    }
+    len / size <= most
+}
+
+// Whether just two fields follow the first: tag 4 of 0 to 10,560 whole gates, tag 5 of 1 to 8 whole outputs.
+fn are_parts(file: &[u8]) -> bool
+    ensures { λ r. ⌜ r ≡ areParts (drop 1 (fieldsOf (now (file .entry)) .items)) ⌝ }
+{
+    let Step::Next(gates, after) = Cursor::new().skip(file, 1).next(file) else {
+        return false;
+    };
+    let Step::Next(pairs, last) = after.next(file) else {
+        return false;
+    };
+    if let Step::Next(_, _) = last.next(file) {
+        return false;
+    }
+    if !has_parts(file, gates, 4, 5, 0, 10560) {
+        return false;
+    }
+    has_parts(file, pairs, 5, 4, 1, 8)
+}
+
+// Question 11: does the file have whole fields of tags 1, 4, 5 in that order and no more, tag 1 as in question 2, tag 4 of 0
+// to 10,560 whole gates, tag 5 of 1 to 8 whole outputs?
+pub fn ask_form(file: &[u8]) -> Form
+    ensures { λ r. ⌜ r ≡ formOf (fieldsOf (now (file .entry))) ⌝ }
+{
+    let Framing::Whole = fields::whole(file) else {
+        return Form::Unformed;
+    };
+    let Contacts::Counted(n) = fields::count_contacts(file) else {
+        return Form::Unformed;
+    };
+    if !are_parts(file) {
+        return Form::Unformed;
+    }
+    Form::Formed(n)
+}
+
+// The number of two bytes at a place.
+fn number_at(bytes: &[u8], at: usize) -> u16
+    requires { ⌜ at + 2 ≤ length (now bytes) ⌝ }
+    ensures { λ r. ⌜ r ≡ numberAt (now (bytes .entry)) at ⌝ }
+{
+    bytes[at] as u16 * 256 + bytes[at + 1] as u16
+}
+
+// Gate g of the gates' bytes.
+pub fn gate(bytes: &[u8], g: usize) -> Gate
+    requires { ⌜ 5 * g + 5 ≤ length (now bytes) ⌝ }
+    ensures { λ r. ⌜ r ≡ gateAt (now (bytes .entry)) g ⌝ }
+{
+    Gate {
+        kind: bytes[5 * g],
+        left: number_at(bytes, 5 * g + 1),
+        right: number_at(bytes, 5 * g + 3),
+    }
+}
+
+// Output j of the outputs' bytes.
+pub fn pair(bytes: &[u8], j: usize) -> Pair
+    requires { ⌜ 4 * j + 4 ≤ length (now bytes) ⌝ }
+    ensures { λ r. ⌜ r ≡ pairAt (now (bytes .entry)) j ⌝ }
+{
+    Pair {
+        on: number_at(bytes, 4 * j),
+        off: number_at(bytes, 4 * j + 2),
+    }
+}
+
+// Hold i of a hold list's bytes.
+pub fn hold(bytes: &[u8], i: usize) -> Hold
+    requires { ⌜ 3 * i + 3 ≤ length (now bytes) ⌝ }
+    ensures { λ r. ⌜ r ≡ holdAt (now (bytes .entry)) i ⌝ }
+{
+    Hold {
+        line: number_at(bytes, 3 * i),
+        value: bytes[3 * i + 2],
+    }
+}

@@ -1,0 +1,30 @@
+// Two-rail netlists of AND and OR gates, and their simulation with stuck lines.
+//
+// Lines 0 and 1 are the constants. The true rail of contact i is line 2 + 2 i, its false rail 3 + 2 i, and gate g is line
+// 2 + 2 n + g.
+mod drive;
+mod form;
+mod simulate;
+mod wiring;
+
+pub use simulate::run;
+pub use simulate::work_out;
+
+// A gate: AND (kind 0) or OR (kind 1) of two lines.
+pub struct Gate {
+    pub kind: u8,
+    pub left: u16,
+    pub right: u16,
+}
+
+// An output's true line and false line.
+pub struct Pair {
+    pub on: u16,
+    pub off: u16,
+}
+
+// A stuck line: a line held at a value.
+pub struct Hold {
+    pub line: u16,
+    pub value: u8,
+}

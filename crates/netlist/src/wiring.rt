@@ -1,0 +1,62 @@
+// Question 12, about a netlist's gates and outputs.
+use crate::form;
+ghost use mathlib.Core.Path.{_≡_};
+ghost use Prim.Native.Nat.{_≤_};
+ghost use Rattle.netlist.specs.Service.{areGates, arePairs, wiringOf};
+
+// Question 12's answer.
+pub enum Wiring {
+    Sound,
+    Unsound,
+}
+
+// Whether every gate's kind is 0 or 1 and its sources are below its own line.
+fn gates_sound(first: usize, gates: &[u8]) -> bool
+    requires { ⌜ first ≤ 65535 ⌝ }
+    ensures { λ r. ⌜ r ≡ areGates first (now (gates .entry)) ⌝ }
+{
+    for g in 0..gates.len() / 5 {
+        let gate = form::gate(gates, g);
+        if 1 < gate.kind {
+            return false;
+        }
+        if first + g <= gate.left as usize {
+            return false;
+        }
+        if first + g <= gate.right as usize {
+            return false;
+        }
+    }
+    true
+}
+
+// Whether every output's lines are in the netlist.
+fn pairs_sound(lines: usize, pairs: &[u8]) -> bool
+    ensures { λ r. ⌜ r ≡ arePairs lines (now (pairs .entry)) ⌝ }
+{
+    for j in 0..pairs.len() / 4 {
+        let pair = form::pair(pairs, j);
+        if lines <= pair.on as usize {
+            return false;
+        }
+        if lines <= pair.off as usize {
+            return false;
+        }
+    }
+    true
+}
+
+// Question 12: is every kind 0 or 1, every source below its gate's own line, every output line in the netlist?
+pub fn ask_wiring(n: usize, gates: &[u8], pairs: &[u8]) -> Wiring
+    requires { ⌜ n ≤ 12 ⌝ }
+    ensures { λ r. ⌜ r ≡ wiringOf n (now (gates .entry)) (now (pairs .entry)) ⌝ }
+{
+    let first = 2 + 2 * n;
+    if !gates_sound(first, gates) {
+        return Wiring::Unsound;
+    }
+    if !pairs_sound(first + gates.len() / 5, pairs) {
+        return Wiring::Unsound;
+    }
+    Wiring::Sound
+}
