@@ -1,6 +1,8 @@
 // Prints worked boards, one subject after another.
 mod files;
+mod netlists;
 mod print;
+mod probes;
 mod runs;
 mod spelling;
 mod tables;
@@ -9,4 +11,6 @@ fn main() {
     files::show_all();
     tables::show_all();
     runs::show_all();
+    netlists::show_all();
+    probes::show_all();
 }

@@ -24,3 +24,21 @@ pub fn bytes(part: &[u8]) {
         byte(part[i]);
     }
 }
+
+// What is left of bytes that were lent as points: a digit for a byte that was written, a point for one that was not.
+pub fn signs(part: &[u8]) {
+    if part.len() == 0 {
+        text(b"none");
+    }
+    for i in 0..part.len() {
+        sign(part[i]);
+    }
+}
+
+fn sign(b: u8) {
+    if b == 46 {
+        text(b".");
+    } else {
+        number(b as usize);
+    }
+}

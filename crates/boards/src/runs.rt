@@ -5,7 +5,7 @@
 // each buffer has, and the netlist, which is the selector's where none is spelt.
 use crate::print;
 use crate::spelling;
-ghost use Prim.Native.Nat.{_*_, _≤_, _<_};
+ghost use Prim.Native.Nat.{_≤_, _<_};
 ghost use lib.ListN.{length};
 
 pub fn show_all() {
@@ -85,9 +85,8 @@ fn forms() {
 
 // As many gates as a netlist may have, and one more.
 fn gate_counts() {
-    show_row(b"10560 gates, the last lines:", 10560, b"");
-    show_row(b"10560 gates, the last at 0:", 10560, b"\x29\x43\x00");
-    show_row(b"10561 gates, the last lines:", 10561, b"");
+    show_row(b"10560 gates, the last at 1:", 10560, b"\x29\x43\x01");
+    show_row(b"10561 gates:", 10561, b"");
 }
 
 // Question 12, and that it comes before question 13.
@@ -227,62 +226,34 @@ fn print_run(refusal: u32, lines: &[u8], pairs: &[u8]) {
     print::text(b" ");
     print::number(refusal as usize);
     print::text(b", lines ");
-    signs(lines);
+    print::signs(lines);
     print::text(b", pairs ");
-    signs(pairs);
+    print::signs(pairs);
     print::text(b"\n");
 }
 
-fn signs(bytes: &[u8]) {
-    if bytes.len() == 0 {
-        print::text(b"none");
-    }
-    for i in 0..bytes.len() {
-        sign(bytes[i]);
-    }
-}
-
-// A digit for a byte that was written, a point for one that was not.
-fn sign(byte: u8) {
-    if byte == 46 {
-        print::text(b".");
-    } else {
-        print::number(byte as usize);
-    }
-}
-
-// A run of the netlist of a row of gates on one contact's rails, with one output, the last line and the true rail.
+// A run of a netlist with one contact, so many gates of five bytes 0, ANDs of the constant 0, and one output, the last line and
+// the false rail.
 fn show_row(name: &[u8], count: usize, holds: &[u8])
     requires { ⌜ count ≤ 10561 ⌝ }
 {
-    let mut gates = [0u8; 52805];
-    put_gates(&mut gates, count);
+    let gate_bytes = 5 * count;
     let last = 3 + count;
-    let pair = [(last / 256) as u8, (last % 256) as u8, 0, 2];
+    let pair = [(last / 256) as u8, (last % 256) as u8, 0, 3];
     let mut file = [0u8; 52819];
+    file[4] = 4;
+    file[5] = (gate_bytes / 256) as u8;
+    file[6] = (gate_bytes % 256) as u8;
     fields::put_field(&mut file, 0, 1, b"\x01");
-    fields::put_field(&mut file, 4, 4, &gates[0..5 * count]);
-    fields::put_field(&mut file, 7 + 5 * count, 5, &pair);
-    show_last(name, &file[0..14 + 5 * count], holds);
-}
-
-// Gates from line 4 on: each is the OR of the line before it and the constant 0, so that all show what the false rail does.
-fn put_gates(gates: &mut [u8], count: usize)
-    requires { ⌜ (5 * count ≤ length (now gates)) × (count ≤ 10561) ⌝ }
-{
-    for g in 0..count {
-        let line = 3 + g;
-        gates[5 * g] = 1;
-        gates[5 * g + 1] = (line / 256) as u8;
-        gates[5 * g + 2] = (line % 256) as u8;
-    }
+    fields::put_field(&mut file, 7 + gate_bytes, 5, &pair);
+    show_last(name, &file[0..14 + gate_bytes], holds);
 }
 
 // A run of one contact's netlist, and what it leaves from line 10,562 on.
 fn show_last(name: &[u8], netlist: &[u8], holds: &[u8]) {
     let mut lines = [46u8; 10566];
     let mut pairs = [46u8; 3];
-    let refusal = netlist::run(netlist, b"\x00\x01", holds, &mut lines, &mut pairs);
+    let refusal = netlist::run(netlist, b"\x01\x00", holds, &mut lines, &mut pairs);
     print::text(name);
     print_run(refusal, &lines[10562..10566], &pairs);
 }

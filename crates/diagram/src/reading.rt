@@ -25,6 +25,7 @@ pub struct Table {
 }
 
 // The outputs at an input, output j with the weight 2^j, or the refusal.
+#[repr(C)]
 pub struct Reading {
     pub refusal: u32,
     pub word: u32,

@@ -7,6 +7,10 @@ mod form;
 mod simulate;
 mod wiring;
 
+pub use drive::Holds;
+pub use drive::Room;
+pub use drive::ask_holds;
+pub use drive::ask_room;
 pub use simulate::run;
 pub use simulate::work_out;
 

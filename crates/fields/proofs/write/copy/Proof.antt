@@ -38,7 +38,8 @@ loop-again : tie.Need-loop-again Inv-loop μ-loop
 loop-again c =
     let loop = c .before .before in
     let args = loop .before .args in
-    (omega arith, simp length-set (loop .loop .inv .1), copied-more (args .file .now) (args .at) (loop .loop .i) (args .value .now) 0 (omega arith) (loop .loop .inv .2))
+    let more = copied-more (args .file .now) (args .at) (loop .loop .i) (args .value .now) 0 (omega arith) (loop .loop .inv .2) in
+    (omega arith, simp length-set (loop .loop .inv .1), more)
 
 same-length : tie.Need-same-length Inv-loop μ-loop
 same-length c = c .before .loop .inv .1

@@ -1,0 +1,446 @@
+#include "plain.h"
+
+#include <stdbool.h>
+#include <string.h>
+
+enum { MOST_GATES = 10560 };
+
+/* A table whose edges and outputs are read where the caller's bytes stand. */
+struct table {
+    unsigned contacts, outputs;
+    const uint8_t *output;
+    unsigned width[13];
+    const uint8_t *edge[12];
+};
+
+/* An entry of a matrix is a line: 0 is never, 1 is always. */
+struct matrix {
+    uint16_t entry[8][8];
+};
+
+struct gate {
+    uint8_t kind;
+    uint16_t left, right;
+};
+
+static struct gate gates[MOST_GATES];
+static unsigned gate_count;
+static uint8_t depth[PILGODUR_LINES_MAX];
+static uint8_t value[PILGODUR_LINES_MAX];
+
+static unsigned two_bytes(const uint8_t *at)
+{
+    return 256u * at[0] + at[1];
+}
+
+/* ---- The table's questions. ---- */
+
+static bool whole_fields(const uint8_t *file, size_t length)
+{
+    size_t at = 0;
+    while (at < length) {
+        if (length - at < 3 || length - at - 3 < two_bytes(file + at + 1))
+            return false;
+        at += 3 + two_bytes(file + at + 1);
+    }
+    return true;
+}
+
+static bool is_contacts(const uint8_t *file, size_t length)
+{
+    return length >= 4 && file[0] == 1 && two_bytes(file + 1) == 1 && 1 <= file[3] && file[3] <= 12;
+}
+
+/* Question 4; finds the levels, which start at `at`. */
+static bool find_levels(const uint8_t *file, size_t length, size_t at, struct table *t)
+{
+    for (unsigned l = 0; l < t->contacts; l++) {
+        if (at == length || file[at] != 3)
+            return false;
+        unsigned size = two_bytes(file + at + 1);
+        if (size < 2 || size > 16 || size % 2 != 0)
+            return false;
+        t->width[l] = size / 2;
+        t->edge[l] = file + at + 3;
+        at += 3 + size;
+    }
+    t->width[t->contacts] = 2;
+    return at == length;
+}
+
+static bool all_below(const uint8_t *number, unsigned count, unsigned limit)
+{
+    for (unsigned i = 0; i < count; i++)
+        if (number[i] >= limit)
+            return false;
+    return true;
+}
+
+static bool nodes_named(const struct table *t)
+{
+    for (unsigned l = 0; l < t->contacts; l++)
+        if (!all_below(t->edge[l], 2 * t->width[l], t->width[l + 1]))
+            return false;
+    return all_below(t->output, t->outputs, t->width[0]);
+}
+
+static bool nodes_differ(const struct table *t)
+{
+    for (unsigned l = 0; l < t->contacts; l++)
+        for (unsigned u = 0; u < t->width[l]; u++)
+            for (unsigned v = 0; v < u; v++)
+                if (t->edge[l][2 * u] == t->edge[l][2 * v] && t->edge[l][2 * u + 1] == t->edge[l][2 * v + 1])
+                    return false;
+    return true;
+}
+
+static bool in_order(const uint8_t *mention, unsigned count, unsigned width)
+{
+    unsigned next = 0;
+    for (unsigned i = 0; i < count; i++) {
+        if (mention[i] > next)
+            return false;
+        if (mention[i] == next)
+            next++;
+    }
+    return next == width;
+}
+
+static bool nodes_in_order(const struct table *t)
+{
+    if (!in_order(t->output, t->outputs, t->width[0]))
+        return false;
+    for (unsigned l = 1; l < t->contacts; l++)
+        if (!in_order(t->edge[l - 1], 2 * t->width[l - 1], t->width[l]))
+            return false;
+    return true;
+}
+
+static bool contacts_used(const struct table *t)
+{
+    for (unsigned l = 0; l < t->contacts; l++) {
+        unsigned u = 0;
+        while (u < t->width[l] && t->edge[l][2 * u] == t->edge[l][2 * u + 1])
+            u++;
+        if (u == t->width[l])
+            return false;
+    }
+    return true;
+}
+
+static uint32_t read_table(const uint8_t *file, size_t length, struct table *t)
+{
+    if (!whole_fields(file, length))
+        return 1;
+    if (!is_contacts(file, length))
+        return 2;
+    if (length == 4 || file[4] != 2 || two_bytes(file + 5) < 1 || two_bytes(file + 5) > 8)
+        return 3;
+    t->contacts = file[3];
+    t->outputs = two_bytes(file + 5);
+    t->output = file + 7;
+    if (!find_levels(file, length, 7 + t->outputs, t))
+        return 4;
+    if (!nodes_named(t))
+        return 5;
+    if (!nodes_differ(t))
+        return 6;
+    if (!nodes_in_order(t))
+        return 7;
+    if (!contacts_used(t))
+        return 8;
+    return 0;
+}
+
+/* ---- From levels to gates. ---- */
+
+static uint16_t make_gate(unsigned contacts, uint8_t kind, uint16_t left, uint16_t right)
+{
+    uint16_t line = (uint16_t)(2 + 2 * contacts + gate_count);
+    gates[gate_count++] = (struct gate){kind, left, right};
+    depth[line] = (uint8_t)(1 + (depth[left] > depth[right] ? depth[left] : depth[right]));
+    return line;
+}
+
+static uint16_t or_tree(unsigned contacts, const uint16_t *term, unsigned count)
+{
+    if (count == 1)
+        return term[0];
+    unsigned half = (count + 1) / 2;
+    uint16_t first = or_tree(contacts, term, half);
+    uint16_t rest = or_tree(contacts, term + half, count - half);
+    return make_gate(contacts, 1, first, rest);
+}
+
+static uint16_t product_entry(const struct table *t, const struct matrix *left, const struct matrix *right, unsigned u,
+                              unsigned middle, unsigned v)
+{
+    uint16_t term[8];
+    unsigned count = 0;
+    for (unsigned w = 0; w < middle; w++)
+        if (left->entry[u][w] == 1 && right->entry[w][v] == 1)
+            return 1;
+    for (unsigned w = 0; w < middle; w++) {
+        uint16_t a = left->entry[u][w];
+        uint16_t b = right->entry[w][v];
+        if (a != 0 && b != 0)
+            term[count++] = a == 1 ? b : b == 1 ? a : make_gate(t->contacts, 0, a, b);
+    }
+    return count == 0 ? 0 : or_tree(t->contacts, term, count);
+}
+
+static void one_level(const struct table *t, unsigned l, struct matrix *m)
+{
+    for (unsigned u = 0; u < t->width[l]; u++)
+        for (unsigned v = 0; v < t->width[l + 1]; v++) {
+            bool zero = t->edge[l][2 * u] == v;
+            bool one = t->edge[l][2 * u + 1] == v;
+            m->entry[u][v] = (uint16_t)(zero && one ? 1 : one ? 2 + 2 * l : zero ? 3 + 2 * l : 0);
+        }
+}
+
+static void block(const struct table *t, unsigned l, unsigned k, struct matrix *m)
+{
+    if (k - l == 1) {
+        one_level(t, l, m);
+        return;
+    }
+    struct matrix left, right;
+    unsigned cut = l + (k - l + 1) / 2;
+    block(t, l, cut, &left);
+    block(t, cut, k, &right);
+    for (unsigned u = 0; u < t->width[l]; u++)
+        for (unsigned v = 0; v < t->width[k]; v++)
+            m->entry[u][v] = product_entry(t, &left, &right, u, t->width[cut], v);
+}
+
+static void make_gates(const struct table *t, struct matrix *whole)
+{
+    gate_count = 0;
+    memset(depth, 0, 2 + 2 * t->contacts);
+    block(t, 0, t->contacts, whole);
+}
+
+static uint8_t *put_two(uint8_t *at, unsigned number)
+{
+    at[0] = (uint8_t)(number / 256);
+    at[1] = (uint8_t)number;
+    return at + 2;
+}
+
+static uint8_t *put_head(uint8_t *at, uint8_t tag, unsigned length)
+{
+    *at = tag;
+    return put_two(at + 1, length);
+}
+
+static size_t file_length(const struct table *t)
+{
+    return 10 + 5 * (size_t)gate_count + 4 * t->outputs;
+}
+
+static void write_file(const struct table *t, const struct matrix *whole, uint8_t *at)
+{
+    at = put_head(at, 1, 1);
+    *at++ = (uint8_t)t->contacts;
+    at = put_head(at, 4, 5 * gate_count);
+    for (unsigned g = 0; g < gate_count; g++) {
+        *at++ = gates[g].kind;
+        at = put_two(at, gates[g].left);
+        at = put_two(at, gates[g].right);
+    }
+    at = put_head(at, 5, 4 * t->outputs);
+    for (unsigned j = 0; j < t->outputs; j++) {
+        at = put_two(at, whole->entry[t->output[j]][1]);
+        at = put_two(at, whole->entry[t->output[j]][0]);
+    }
+}
+
+/* ---- Questions about netlists. ---- */
+
+static bool netlist_fields(const uint8_t *file, size_t length, unsigned *gates_found, unsigned *outputs)
+{
+    if (!is_contacts(file, length) || length < 7 || file[4] != 4)
+        return false;
+    size_t gate_bytes = two_bytes(file + 5);
+    if (gate_bytes % 5 != 0 || gate_bytes > 5 * MOST_GATES || length < 10 + gate_bytes)
+        return false;
+    const uint8_t *last = file + 7 + gate_bytes;
+    size_t output_bytes = two_bytes(last + 1);
+    if (last[0] != 5 || output_bytes % 4 != 0 || output_bytes < 4 || output_bytes > 32)
+        return false;
+    *gates_found = (unsigned)gate_bytes / 5;
+    *outputs = (unsigned)output_bytes / 4;
+    return length == 10 + gate_bytes + output_bytes;
+}
+
+static bool netlist_lines(const uint8_t *file, unsigned first, unsigned lines, unsigned outputs)
+{
+    const uint8_t *at = file + 7;
+    for (unsigned line = first; line < lines; line++, at += 5)
+        if (at[0] > 1 || two_bytes(at + 1) >= line || two_bytes(at + 3) >= line)
+            return false;
+    at += 3;
+    for (unsigned k = 0; k < 2 * outputs; k++)
+        if (two_bytes(at + 2 * k) >= lines)
+            return false;
+    return true;
+}
+
+static bool holds_good(const uint8_t *holds, size_t length, unsigned lines)
+{
+    unsigned least = 2;
+    if (length % 3 != 0)
+        return false;
+    for (size_t h = 0; h < length; h += 3) {
+        unsigned line = two_bytes(holds + h);
+        if (line < least || line >= lines || holds[h + 2] > 1)
+            return false;
+        least = line + 1;
+    }
+    return true;
+}
+
+/* ---- The services. ---- */
+
+pilgodur_checked plain_check(const uint8_t *table, size_t table_len)
+{
+    struct table t;
+    struct matrix whole;
+    uint32_t refusal = read_table(table, table_len, &t);
+    if (refusal != 0)
+        return (pilgodur_checked){refusal, 0, 0, 0, 0};
+    make_gates(&t, &whole);
+    uint32_t largest = 0;
+    for (unsigned line = 0; line < 2 + 2 * t.contacts + gate_count; line++)
+        if (depth[line] > largest)
+            largest = depth[line];
+    return (pilgodur_checked){0, t.contacts, t.outputs, gate_count, largest};
+}
+
+pilgodur_built plain_build(const uint8_t *table, size_t table_len, uint8_t *file, size_t file_len)
+{
+    struct table t;
+    struct matrix whole;
+    uint32_t refusal = read_table(table, table_len, &t);
+    if (refusal != 0)
+        return (pilgodur_built){refusal, 0};
+    make_gates(&t, &whole);
+    if (file_len < file_length(&t))
+        return (pilgodur_built){9, 0};
+    write_file(&t, &whole, file);
+    return (pilgodur_built){0, (uint32_t)file_length(&t)};
+}
+
+pilgodur_reading plain_read_off(const uint8_t *table, size_t table_len, uint32_t input)
+{
+    struct table t;
+    uint32_t refusal = read_table(table, table_len, &t);
+    if (refusal != 0)
+        return (pilgodur_reading){refusal, 0};
+    if (input >= 1u << t.contacts)
+        return (pilgodur_reading){10, 0};
+    uint32_t word = 0;
+    for (unsigned j = 0; j < t.outputs; j++) {
+        unsigned node = t.output[j];
+        for (unsigned i = 0; i < t.contacts; i++)
+            node = t.edge[i][2 * node + (input >> i & 1)];
+        word |= (uint32_t)node << j;
+    }
+    return (pilgodur_reading){0, word};
+}
+
+uint32_t plain_run(const uint8_t *netlist, size_t netlist_len, const uint8_t *rails, size_t rails_len,
+                   const uint8_t *holds, size_t holds_len, uint8_t *lines, size_t lines_len,
+                   uint8_t *pairs, size_t pairs_len)
+{
+    unsigned count, outputs;
+    if (!netlist_fields(netlist, netlist_len, &count, &outputs))
+        return 11;
+    unsigned first = 2 + 2u * netlist[3];
+    count += first;
+    if (!netlist_lines(netlist, first, count, outputs))
+        return 12;
+    if (rails_len != first - 2 || !all_below(rails, first - 2, 2))
+        return 13;
+    if (!holds_good(holds, holds_len, count))
+        return 14;
+    if (lines_len < count || pairs_len < 2 * outputs)
+        return 9;
+    const uint8_t *gate = netlist + 7;
+    size_t h = 0;
+    for (unsigned line = 0; line < count; line++) {
+        if (line < 2) {
+            lines[line] = (uint8_t)line;
+        } else if (line < first) {
+            lines[line] = rails[line - 2];
+        } else {
+            uint8_t a = lines[two_bytes(gate + 1)];
+            uint8_t b = lines[two_bytes(gate + 3)];
+            lines[line] = gate[0] == 0 ? a & b : a | b;
+            gate += 5;
+        }
+        if (h < holds_len && two_bytes(holds + h) == line) {
+            lines[line] = holds[h + 2];
+            h += 3;
+        }
+    }
+    const uint8_t *output = gate + 3;
+    for (unsigned k = 0; k < 2 * outputs; k++)
+        pairs[k] = lines[two_bytes(output + 2 * k)];
+    return 0;
+}
+
+/* Works out every line at a code input with one line held. */
+static void work_out(unsigned contacts, uint32_t input, unsigned held, uint8_t held_at)
+{
+    unsigned first = 2 + 2 * contacts;
+    value[0] = 0;
+    value[1] = 1;
+    for (unsigned i = 0; i < contacts; i++) {
+        value[2 + 2 * i] = input >> i & 1;
+        value[3 + 2 * i] = !(input >> i & 1);
+    }
+    if (held < first)
+        value[held] = held_at;
+    for (unsigned g = 0; g < gate_count; g++) {
+        uint8_t a = value[gates[g].left];
+        uint8_t b = value[gates[g].right];
+        value[first + g] = gates[g].kind == 0 ? a & b : a | b;
+        if (first + g == held)
+            value[held] = held_at;
+    }
+}
+
+static pilgodur_probed search(const struct table *t, const struct matrix *whole, unsigned held, uint8_t held_at)
+{
+    for (uint32_t input = 0; input < 1u << t->contacts; input++) {
+        work_out(t->contacts, input, held, held_at);
+        for (unsigned j = 0; j < t->outputs; j++) {
+            const uint16_t *pair = whole->entry[t->output[j]];
+            if (value[pair[0]] == value[pair[1]])
+                return (pilgodur_probed){0, input, j, value[pair[0]]};
+        }
+    }
+    return (pilgodur_probed){15, 0, 0, 0}; /* not reached: every line is seen at some input */
+}
+
+pilgodur_probed plain_probe(const uint8_t *table, size_t table_len, const uint8_t *hold, size_t hold_len,
+                            uint8_t *buffer, size_t buffer_len)
+{
+    struct table t;
+    struct matrix whole;
+    uint32_t refusal = read_table(table, table_len, &t);
+    if (refusal != 0)
+        return (pilgodur_probed){refusal, 0, 0, 0};
+    make_gates(&t, &whole);
+    unsigned count = 2 + 2 * t.contacts + gate_count;
+    if (hold_len != 3 || !holds_good(hold, hold_len, count))
+        return (pilgodur_probed){14, 0, 0, 0};
+    if (buffer_len < file_length(&t) + count)
+        return (pilgodur_probed){9, 0, 0, 0};
+    pilgodur_probed answer = search(&t, &whole, two_bytes(hold), hold[2]);
+    write_file(&t, &whole, buffer);
+    memcpy(buffer + file_length(&t), value, count);
+    return answer;
+}

@@ -1,0 +1,119 @@
+-- No stuck line stays unseen: at some input it makes the pair of some output show its own value twice.
+use Prim.Native.Nat.{ℕ, zero, suc, _+_, _*_, _-_, _≤_, _<_}
+use native.Mathlib.Decide.{ℕ-discrete, decLe}
+use native.Mathlib.Nat.{zero-add}
+use native.Mathlib.Omega.{arith}
+use mathlib.Core.Path.{_≡_, refl, sym, _∙_}
+use mathlib.Core.Bool.{Bool, true, false}
+use mathlib.Core.Logic.{by-cases}
+use Rattle.diagram.specs.declared.Diagram.{Diagram}
+use Rattle.diagram.specs.Diagram.{bit, Input, path, valueAt}
+use Rattle.diagram.specs.Questions.{branching}
+use Rattle.diagram.proofs.Paths.{place, width-last, value-bit}
+use Rattle.diagram.proofs.Unique.{Reduced}
+use Rattle.netlist.specs.Netlist.{gateLine, lineCount}
+use Rattle.synthesis.specs.declared.Entry.{Entry}
+use Rattle.synthesis.specs.declared.Entry.the-variants.{Never, Always, Line}
+use Rattle.synthesis.specs.Blocks.{size, cut}
+use Rattle.synthesis.specs.Board.{lineOf, wholeBlock, boardOf}
+use Rattle.synthesis.proofs.Valuations.{shows}
+use Rattle.synthesis.proofs.Cuts.{size-cut}
+use Rattle.synthesis.proofs.Pairs.{wholeEntry, pair}
+use Rattle.synthesis.proofs.Values.{board-down, board-up}
+use Rattle.faults.proofs.Routes.{nodeAt}
+use Rattle.faults.proofs.Shown.{Low, High, Shown}
+use Rattle.faults.proofs.GatesShown.{gate-shown}
+use Rattle.faults.proofs.RailsShown.{railOf, Branches, branches, rail-shown}
+use Rattle.faults.proofs.OneWay.{gates-down, rails-down, gates-up, rails-up}
+use Rattle.faults.proofs.Stuck.{Stuck, one-way}
+
+-- Line y held at b is betrayed: at some input some pair shows b twice.
+abbrev pub Betrayed : Diagram → ℕ → ℕ → Type 0
+Betrayed d y b =
+    (x : Input) × (j : ℕ) × (j < d .outputs)
+    × ((ν : ℕ → ℕ) → Stuck d x y b ν → (ν (pair d j .on) ≡ b) × (ν (pair d j .off) ≡ b))
+
+shown-line : (ν : ℕ → ℕ) (e : Entry) → ν 0 ≡ 0 → ν 1 ≡ 1 → ν (lineOf e) ≡ shows ν e
+shown-line ν Never low high = low
+shown-line ν Always low high = high
+shown-line ν (Line x) low high = refl
+
+remaining : (a b c : ℕ) → a < 2 → b < 2 → c < 2 → (b ≡ a → ⊥) → (a ≡ c → ⊥) → c ≡ b
+remaining a b c ha hb hc ne ne' = omega arith
+
+module _ (d : Diagram) (some : 1 ≤ d .contacts) (reduced : Reduced d) where
+  module _ (y : ℕ) where
+    -- A line that spoils an entry of the whole block shows at a pair.
+    low-betrayed : Low d y (cut (d .contacts)) 0 (gateLine (d .contacts)) → Betrayed d y 0
+    unfolding boardOf wholeBlock path valueAt
+    low-betrayed (j, hj, x, low) = (x, j, hj, go)
+      where
+        end : nodeAt d x j (0 + size (cut (d .contacts))) ≡ valueAt d x j
+        end = rw (size-cut (d .contacts) some, zero-add (d .contacts))
+
+        go : (ν : ℕ → ℕ) → Stuck d x y 0 ν → (ν (pair d j .on) ≡ 0) × (ν (pair d j .off) ≡ 0)
+        go ν s = (dark 1 (leads .0), dark 0 (leads .1))
+          where
+            leads : (ν (pair d j .on) ≡ 1 → valueAt d x j ≡ 1) × (ν (pair d j .off) ≡ 1 → valueAt d x j ≡ 0)
+            leads = board-down d (reduced .ranged) some x ν (gates-down d x ν (one-way s)) (rails-down d x ν (one-way s)) (s .low) j hj
+
+            dark : (v : ℕ) → (ν (lineOf (wholeEntry d j v)) ≡ 1 → valueAt d x j ≡ v) → ν (lineOf (wholeEntry d j v)) ≡ 0
+            dark v to =
+                let e = wholeEntry d j v in
+                let ne : ν (lineOf e) ≡ 1 → ⊥ = λ p.
+                low ν (rails-down d x ν (one-way s)) (gates-down d x ν (one-way s)) (s .held)
+                (rw (end ∙ to p) (sym (shown-line ν e (s .low) (s .high)) ∙ p)) in
+                omega (arith, s .bits (lineOf e))
+
+    high-betrayed : High d y (cut (d .contacts)) 0 0 (gateLine (d .contacts)) → Betrayed d y 1
+    unfolding boardOf wholeBlock path valueAt
+    high-betrayed (j, hj, x, v, hv, wrong, high) = (x, j, hj, go)
+      where
+        bit-v : v < 2
+        bit-v = rw (size-cut (d .contacts) some, zero-add (d .contacts), width-last d) at hv
+
+        go : (ν : ℕ → ℕ) → Stuck d x y 1 ν → (ν (pair d j .on) ≡ 1) × (ν (pair d j .off) ≡ 1)
+        go ν s = (lit 1 (omega arith) (leads .0), lit 0 (omega arith) (leads .1))
+          where
+            leads : (valueAt d x j ≡ 1 → ν (pair d j .on) ≡ 1) × (valueAt d x j ≡ 0 → ν (pair d j .off) ≡ 1)
+            leads = board-up d (reduced .ranged) some x ν (gates-up d x ν (one-way s)) (rails-up d x ν (one-way s)) (s .high) j hj
+
+            lit : (c : ℕ) → c < 2 → (valueAt d x j ≡ c → ν (lineOf (wholeEntry d j c)) ≡ 1) →
+                ν (lineOf (wholeEntry d j c)) ≡ 1
+            lit c hc from =
+                by-cases (ℕ-discrete (valueAt d x j) c) from (λ ne.
+                let p = remaining (valueAt d x j) v c (value-bit d (reduced .ranged) x j hj) bit-v hc wrong ne in
+                shown-line ν (wholeEntry d j c) (s .low) (s .high)
+                ∙ rw p (high ν (rails-up d x ν (one-way s)) (gates-up d x ν (one-way s)) (s .held)))
+
+    betrayed : Shown d y (cut (d .contacts)) 0 0 (gateLine (d .contacts)) → (b : ℕ) → b ≤ 1 → Betrayed d y b
+    betrayed s zero h = low-betrayed (s .low)
+    betrayed s (suc zero) h = high-betrayed (s .high)
+    betrayed s (suc (suc b)) h = absurd (omega arith)
+
+  whole : 0 + size (cut (d .contacts)) + 0 ≡ d .contacts
+  whole = omega (arith, size-cut (d .contacts) some)
+
+  -- A gate's line.
+  pub no-unseen-gate : (y b : ℕ) → gateLine (d .contacts) ≤ y → y < lineCount (boardOf d) → b ≤ 1 → Betrayed d y b
+  unfolding boardOf wholeBlock
+  no-unseen-gate y b from below =
+      betrayed y (gate-shown d reduced y (cut (d .contacts)) 0 0 _ whole (record { from = from; below = below })) b
+
+  -- A rail of a level that has a node with different edges.
+  pub no-unseen-rail : (i : ℕ) (t : Bool) (b : ℕ) → i < d .contacts → Branches d i → b ≤ 1 → Betrayed d (railOf i t) b
+  no-unseen-rail i t b h branch =
+      betrayed (railOf i t)
+      (rail-shown d reduced i t branch (cut (d .contacts)) 0 0 _ whole (omega arith) (omega (arith, whole))) b
+
+  -- Every line that can be held.
+  pub no-unseen : branching d ≡ true → (y b : ℕ) → 2 ≤ y → y < lineCount (boardOf d) → b ≤ 1 → Betrayed d y b
+  no-unseen asked y b from below h =
+      by-cases (decLe (gateLine (d .contacts)) y) (λ l. no-unseen-gate y b l below h) (λ l. go l (place (y - 2)))
+    where
+      rail : (i : ℕ) (t : Bool) → i < d .contacts → y ≡ railOf i t → Betrayed d y b
+      rail i t l e = rw e (no-unseen-rail i t b l (branches d asked i l) h)
+
+      go : (gateLine (d .contacts) ≤ y → ⊥) → (i : ℕ) × (t : Bool) × (y - 2 ≡ 2 * i + bit t) → Betrayed d y b
+      go l (i, false, e) = rail i true (omega arith) (omega arith)
+      go l (i, true, e) = rail i false (omega arith) (omega arith)

@@ -1,0 +1,135 @@
+-- A stuck line among the terms of an OR tree or its gates: held at 1 it makes the tree show 1, and held at 0 it keeps at least one
+-- term from the tree.
+use Prim.Native.Nat.{ℕ, _+_, _<_}
+use native.Mathlib.Nat.{add-zero}
+use native.Mathlib.Omega.{arith}
+use mathlib.Core.Path.{_≡_, subst⁻¹}
+use mathlib.Core.List.{List, [], _∷_, append-nil}
+use mathlib.Core.Logic.{inl, inr, ⊎-elim}
+use lib.ListN.{length, getD, take, drop}
+use lib.Seq.{getD-take, getD-drop}
+use Rattle.netlist.specs.declared.Gate.{Gate}
+use Rattle.synthesis.specs.declared.Entry.{Entry}
+use Rattle.synthesis.specs.declared.Entry.the-variants.{Line}
+use Rattle.synthesis.specs.Make.{_>>=_}
+use Rattle.synthesis.specs.Blocks.{Cut, one, two, size, cut, orTree, joined}
+use Rattle.synthesis.proofs.Makes.{Each, each-left, each-right}
+use Rattle.synthesis.proofs.Valuations.{Down, Up, shows}
+use Rattle.synthesis.proofs.Cuts.{size-pos, size-cut}
+use Rattle.synthesis.proofs.Trees.{tree-down, joined-down, joined-up}
+use Rattle.faults.proofs.Hits.{Hit, EachOf, no-hit, hit-append}
+
+-- Line y is among the first lines of a list or among the gates that join them to entry e. Held at 0 it keeps the line at one
+-- position from e: if e shows 1, so does a line at another position. That each gate has P is each P.
+pub record OrHit (y count : ℕ) (ls : List ℕ) (each : (ℕ → Gate → Type 0) → Type 0) (e : Entry) : Type 0 where
+  pub high : (ν : ℕ → ℕ) → each (Up ν) → ν y ≡ 1 → shows ν e ≡ 1
+  pub kept : ℕ
+  pub inside : kept < count
+  pub low : (ν : ℕ → ℕ) → each (Down ν) → ν y ≡ 0 → shows ν e ≡ 1 →
+      (i : ℕ) × (i < count) × (i ≡ kept → ⊥) × (ν (getD ls i 0) ≡ 1)
+
+module _ (y : ℕ) where
+  abbrev TreeHit : Cut → List ℕ → ℕ → Type 0
+  TreeHit c ls next = OrHit y (size c) ls (EachOf (orTree c ls) next) (Line (orTree c ls next .1))
+
+  tree-hit : (c : Cut) (ls : List ℕ) (next : ℕ) → Hit y next (orTree c ls next .0) → TreeHit c ls next
+  unfolding orTree _>>=_
+  tree-hit one ls next h = absurd (no-hit h)
+  tree-hit (two a b) ls next h =
+      ⊎-elim (λ h. in-first (tree-hit a firsts next h))
+      (λ h. ⊎-elim (λ h. in-rest (tree-hit b rest mid h)) in-or (hit-append (orTree b rest mid .0) _ h))
+      (hit-append (orTree a firsts next .0) _ h)
+    where
+      firsts : List ℕ
+      firsts = take (size a) ls
+
+      rest : List ℕ
+      rest = drop (size a) ls
+
+      mid : ℕ
+      mid = next + length (orTree a firsts next .0)
+
+      top : ℕ
+      top = mid + length (orTree b rest mid .0)
+
+      or : Gate
+      or = record { kind = 1; left = orTree a firsts next .1; right = orTree b rest mid .1 }
+
+      -- The gates of the two parts, and the OR.
+      parts : {P : ℕ → Gate → Type 0} → EachOf (orTree (two a b) ls) next P →
+          EachOf (orTree a firsts) next P × EachOf (orTree b rest) mid P × P top or
+      parts e =
+          let later = each-right (orTree a firsts next .0) _ e in (
+            each-left (orTree a firsts next .0) _ e,
+            each-left (orTree b rest mid .0) _ later,
+            rw (add-zero top) at (each-right (orTree b rest mid .0) _ later .has 0 (omega arith)),
+          )
+
+      in-first : TreeHit a firsts next → TreeHit (two a b) ls next
+      in-first t =
+          record {
+            high = λ ν e s. let (ea, _, up) = parts e in up (inl (t .high ν ea s));
+            kept = t .kept;
+            inside = omega (arith, t .inside);
+            low = λ ν e s r.
+                let (ea, eb, down) = parts e in
+                ⊎-elim
+                (λ r. let (i, h, ne, q) = t .low ν ea s r in (i, omega arith, ne, rw (getD-take (size a) ls i 0 h) at q))
+                (λ r.
+                let (i, h, q) = tree-down ν b rest .result mid eb r in
+                (size a + i, omega arith, λ p. omega (arith, t .inside), rw (getD-drop (size a) ls i 0) at q))
+                (down r);
+          }
+
+      in-rest : TreeHit b rest mid → TreeHit (two a b) ls next
+      in-rest t =
+          record {
+            high = λ ν e s. let (_, eb, up) = parts e in up (inr (t .high ν eb s));
+            kept = size a + t .kept;
+            inside = omega (arith, t .inside);
+            low = λ ν e s r.
+                let (ea, eb, down) = parts e in
+                ⊎-elim
+                (λ r.
+                let (i, h, q) = tree-down ν a firsts .result next ea r in
+                (i, omega arith, λ p. omega arith, rw (getD-take (size a) ls i 0 h) at q))
+                (λ r.
+                let (i, h, ne, q) = t .low ν eb s r in
+                (size a + i, omega arith, λ p. ne (omega arith), rw (getD-drop (size a) ls i 0) at q))
+                (down r);
+          }
+
+      in-or : Hit y top (or ∷ []) → TreeHit (two a b) ls next
+      in-or h =
+          let p : y ≡ top = omega arith in
+          record {
+            high = λ ν e s. rw p at s;
+            kept = 0;
+            inside = omega (arith, size-pos a);
+            low = λ ν e s r. absurd (let s = rw p at s in omega arith);
+          }
+
+  abbrev pub JoinedHit : List ℕ → ℕ → Type 0
+  JoinedHit ls next = OrHit y (length ls) ls (EachOf (joined ls) next) (joined ls next .1)
+
+  -- One of the ORs.
+  pub or-hit : (ls : List ℕ) (next : ℕ) → Hit y next (joined ls next .0) → JoinedHit ls next
+  unfolding joined _>>=_
+  or-hit [] next = λ h. absurd (no-hit h)
+  or-hit (x ∷ ls) next =
+      let tree = orTree (cut (length (x ∷ ls))) (x ∷ ls) next in
+      subst⁻¹ (λ gates. Hit y next gates → OrHit y (length (x ∷ ls)) (x ∷ ls) (λ P. Each P next gates) (Line (tree .1)))
+      (append-nil (tree .0))
+      (rw (size-cut (length (x ∷ ls)) (omega arith)) at (tree-hit (cut (length (x ∷ ls))) (x ∷ ls) next))
+
+  -- One of the terms.
+  pub term-hit : (ls : List ℕ) (next p : ℕ) → p < length ls → getD ls p 0 ≡ y → JoinedHit ls next
+  term-hit ls next p h e =
+      record {
+        high = λ ν ups s. joined-up ν ls .result next ups (p, h, rw e s);
+        kept = p;
+        inside = h;
+        low = λ ν downs s r.
+            let (i, hi, q) = joined-down ν ls .result next downs r in
+            (i, hi, λ same. let q : ν y ≡ 1 = rw (same, e) at q in omega arith, q);
+      }

@@ -1,0 +1,5 @@
+pub mod Betrayal
+pub mod Words
+pub mod Service
+pub mod Findings
+pub mod Promises

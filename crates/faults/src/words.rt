@@ -1,0 +1,197 @@
+// The search for the smallest code input that betrays a held line, 64 inputs at once: bit k of a line's word is the line's
+// value at input base + k.
+ghost use mathlib.Core.Path.{_≡_};
+ghost use mathlib.Core.Bool.{true};
+ghost use mathlib.Core.List.{[], map};
+ghost use Prim.Native.Nat.{ℕ, _+_, _/_, _%_, _≤_, _<_};
+ghost use lib.ListN.{length, getD, take};
+ghost use Rattle.fields.specs.Bounded.{any};
+ghost use Rattle.diagram.specs.Diagram.{bit, inputOf};
+ghost use Rattle.netlist.specs.Netlist.{numberAt, gateLine, gatesOf, pairsOf};
+ghost use Rattle.netlist.specs.Run.{rail, gate, workOut};
+ghost use Rattle.netlist.specs.Service.{areGates, arePairs};
+ghost use Rattle.synthesis.specs.Code.{codeRails};
+ghost use Rattle.faults.specs.Betrayal.{stuckAt, noCode, betrays, least, smallestInput};
+ghost use Rattle.faults.specs.Words.{bitOf, bitsOf, gateWord, heldWord, holdOf, ruleOf, netOf, Workable, Searchable};
+
+const ONES: u64 = 0xFFFF_FFFF_FFFF_FFFF;
+
+// The true rails' words of contacts 0 to 5, at every base that is a multiple of 64.
+const PATTERNS: [u64; 6] = [
+    0xAAAA_AAAA_AAAA_AAAA,
+    0xCCCC_CCCC_CCCC_CCCC,
+    0xF0F0_F0F0_F0F0_F0F0,
+    0xFF00_FF00_FF00_FF00,
+    0xFFFF_0000_FFFF_0000,
+    0xFFFF_FFFF_0000_0000,
+];
+
+// The number of two bytes at a place.
+pub fn number_at(bytes: &[u8], at: usize) -> usize
+    requires { ⌜ at + 2 ≤ length (now bytes) ⌝ }
+    ensures { λ r. ⌜ r ≡ numberAt (now (bytes .entry)) at ⌝ }
+{
+    fields::number(bytes[at], bytes[at + 1])
+}
+
+// The word of the line that two bytes name.
+fn word_at(bytes: &[u8], at: usize, words: &[u64]) -> u64
+    requires { ⌜ (at + 2 ≤ length (now bytes)) × (numberAt (now bytes) at < length (now words)) ⌝ }
+    ensures { λ r. ⌜ r ≡ getD (now (words .entry)) (numberAt (now (bytes .entry)) at) 0 ⌝ }
+{
+    words[number_at(bytes, at)]
+}
+
+// The value of the line that two bytes name.
+pub fn value_at(bytes: &[u8], at: usize, lines: &[u8]) -> u8
+    requires { ⌜ (at + 2 ≤ length (now bytes)) × (numberAt (now bytes) at < length (now lines)) ⌝ }
+    ensures { λ r. ⌜ r ≡ getD (now (lines .entry)) (numberAt (now (bytes .entry)) at) 0 ⌝ }
+{
+    lines[number_at(bytes, at)]
+}
+
+// A value at all 64 inputs.
+fn same_word(value: u8) -> u64
+    requires { ⌜ value ≤ 1 ⌝ }
+    ensures { λ r. ⌜ ((k : ℕ) → k < 64 → bitOf k r ≡ value) ⌝ }
+{
+    if value == 0 { 0 } else { ONES }
+}
+
+// The word of a contact's true rail.
+fn rail_word(contact: usize, base: usize) -> u64
+    requires { ⌜ (contact < 12) × (base % 64 ≡ 0) ⌝ }
+    ensures { λ r. ⌜ ((k : ℕ) → k < 64 → bitOf k r ≡ bit (inputOf (base + k) contact)) ⌝ }
+{
+    if contact < 6 {
+        return PATTERNS[contact];
+    }
+    if (base >> contact) % 2 == 0 { 0 } else { ONES }
+}
+
+// What a gate makes of two words: AND (kind 0) or OR.
+fn make_word(kind: u8, a: u64, b: u64) -> u64
+    ensures { λ r. ⌜ r ≡ gateWord kind a b ⌝ }
+{
+    if kind == 0 { a & b } else { a | b }
+}
+
+// What a line shows, given what its driver makes.
+fn show_word(line: usize, word: u64, at: usize, made: u64) -> u64
+    ensures { λ r. ⌜ r ≡ heldWord line word at made ⌝ }
+{
+    if line == at { word } else { made }
+}
+
+// The place of the lowest set bit of a word.
+fn lowest_bit(word: u64) -> u32
+    requires { ⌜ 0 < word ⌝ }
+    ensures { λ r. ⌜ (r < 64) × (bitOf r word ≡ 1) × ((k : ℕ) → k < r → bitOf k word ≡ 0) ⌝ }
+{
+    u64::trailing_zeros(word)
+}
+
+// Writes the rails' words from line 2 up.
+fn put_rails(n: usize, base: usize, line: usize, word: u64, words: &mut [u64])
+    requires { ⌜ (n ≤ 12) × (base % 64 ≡ 0) × (gateLine n ≤ length (now words)) ⌝ }
+    ensures { λ _. ⌜ ((k : ℕ) → k < 64 → bitsOf k (take (gateLine n) (now (words .exit))) ≡ workOut (ruleOf line word k) (map rail (codeRails n (inputOf (base + k)))) (bitsOf k (take 2 (now (words .entry))))) ⌝ }
+{
+    for i in 0..n {
+        let at = 2 + 2 * i;
+        let on = rail_word(i, base);
+        words[at] = show_word(line, word, at, on);
+        let next = at + 1;
+        words[next] = show_word(line, word, next, on ^ ONES);
+    }
+}
+
+// Writes the gates' words from a line up, given the words before it.
+fn put_gates(gates: &[u8], first: usize, line: usize, word: u64, words: &mut [u64])
+    requires { ⌜ (first + length (now gates) / 5 ≤ length (now words)) × (areGates first (now gates) ≡ true) ⌝ }
+    ensures { λ _. ⌜ ((k : ℕ) → k < 64 → bitsOf k (take (first + length (now (gates .entry)) / 5) (now (words .exit))) ≡ workOut (ruleOf line word k) (map gate (gatesOf (now (gates .entry)))) (bitsOf k (take first (now (words .entry))))) ⌝ }
+{
+    for g in 0..gates.len() / 5 {
+        let at = 5 * g;
+        let left = word_at(gates, at + 1, words);
+        let right = word_at(gates, at + 3, words);
+        let to = first + g;
+        words[to] = show_word(line, word, to, make_word(gates[at], left, right));
+    }
+}
+
+// Writes every line's word, from line 0 up: the constants, the rails, the gates.
+fn work_words(gates: &[u8], n: usize, base: usize, line: usize, word: u64, words: &mut [u64])
+    requires { ⌜ Workable n (now gates) (length (now words)) × (base % 64 ≡ 0) ⌝ }
+    ensures { λ _. ⌜ ((k : ℕ) → k < 64 → bitsOf k (take (gateLine n + length (now (gates .entry)) / 5) (now (words .exit))) ≡ stuckAt (netOf n (now (gates .entry)) []) (holdOf line word k) (base + k)) ⌝ }
+{
+    words[0] = 0;
+    words[1] = ONES;
+    put_rails(n, base, line, word, words);
+    put_gates(gates, 2 + 2 * n, line, word, words);
+}
+
+// The inputs at which some output's true and false line agree.
+fn agreeing(pairs: &[u8], words: &[u64]) -> u64
+    requires { ⌜ arePairs (length (now words)) (now pairs) ≡ true ⌝ }
+    ensures { λ r. ⌜ ((k : ℕ) → k < 64 → bitOf k r ≡ bit (any (length (pairsOf (now (pairs .entry)))) (noCode (netOf 0 [] (now (pairs .entry))) (bitsOf k (now (words .entry)))))) ⌝ }
+{
+    let mut mask = 0;
+    for j in 0..pairs.len() / 4 {
+        let at = 4 * j;
+        let on = word_at(pairs, at, words);
+        let off = word_at(pairs, at + 2, words);
+        mask = mask | ((on ^ off) ^ ONES);
+    }
+    mask
+}
+
+// The inputs from a base on that betray a held line.
+fn betraying(
+    gates: &[u8],
+    pairs: &[u8],
+    n: usize,
+    base: usize,
+    line: usize,
+    word: u64,
+    words: &mut [u64],
+) -> u64
+    requires { ⌜ Workable n (now gates) (length (now words)) × (base % 64 ≡ 0) × (arePairs (gateLine n + length (now gates) / 5) (now pairs) ≡ true) ⌝ }
+    ensures { λ r. ⌜ ((k : ℕ) → k < 64 → bitOf k r ≡ bit (betrays (netOf n (now (gates .entry)) (now (pairs .entry))) (holdOf line word k) (base + k))) ⌝ }
+{
+    work_words(gates, n, base, line, word, words);
+    let lines = 2 + 2 * n + gates.len() / 5;
+    agreeing(pairs, &words[..lines])
+}
+
+// The smallest code input that betrays a held line, which some input does.
+pub fn search(gates: &[u8], pairs: &[u8], n: usize, line: usize, value: u8) -> u32
+    requires { ⌜ Searchable n (now gates) (now pairs) (record { line = line; value = value }) ⌝ }
+    ensures { λ r. ⌜ r ≡ smallestInput (netOf n (now (gates .entry)) (now (pairs .entry))) (record { line = line; value = value }) ⌝ }
+{
+    let word = same_word(value);
+    let mut words = [0u64; 10586];
+    let mut base = 0;
+    loop {
+        let mask = betraying(gates, pairs, n, base, line, word, &mut words);
+        if mask != 0 {
+            return base as u32 + lowest_bit(mask);
+        }
+        base += 64;
+    }
+}
+
+// The lowest output whose pair shows no code, which some output's does.
+pub fn lowest(pairs: &[u8], lines: &[u8]) -> u32
+    requires { ⌜ (arePairs (length (now lines)) (now pairs) ≡ true) × (length (now pairs) / 4 ≤ 8) ⌝ }
+    requires { ⌜ any (length (pairsOf (now pairs))) (noCode (netOf 0 [] (now pairs)) (now lines)) ≡ true ⌝ }
+    ensures { λ r. ⌜ r ≡ least (length (pairsOf (now (pairs .entry)))) (noCode (netOf 0 [] (now (pairs .entry))) (now (lines .entry))) ⌝ }
+{
+    let mut j = 0;
+    loop {
+        let at = 4 * j;
+        if value_at(pairs, at, lines) == value_at(pairs, at + 2, lines) {
+            return j as u32;
+        }
+        j += 1;
+    }
+}

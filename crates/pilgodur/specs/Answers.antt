@@ -1,0 +1,14 @@
+-- The numbers that probe returns to C.
+use Prim.Native.Nat.{ℕ}
+use Rattle.faults.specs.declared.service.Way.{Way}
+use Rattle.faults.specs.declared.service.Way.the-variants.{BothLow, BothHigh}
+use Rattle.faults.specs.declared.service.Probed as core
+use Rattle.pilgodur.specs.declared.Probed.{Probed}
+
+-- Low is 0, high is 1.
+abbrev pub wayNumber : Way → ℕ
+wayNumber BothLow = 0
+wayNumber BothHigh = 1
+
+abbrev pub probedBy : core.Probed → Probed
+probedBy p = record { refusal = p .refusal; input = p .input; output = p .output; way = wayNumber (p .way) }

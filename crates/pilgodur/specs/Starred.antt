@@ -1,0 +1,81 @@
+-- The worked boards that are proved, as a list of cases, each with what the service answers.
+use Prim.Native.Nat.{ℕ}
+use mathlib.Core.Path.{_≡_}
+use mathlib.Core.List.{List, [], _∷_}
+use lib.ListN.{replicate}
+use Rattle.netlist.specs.Service.{runOf}
+use Rattle.synthesis.specs.declared.service.Checked.{Checked}
+use Rattle.synthesis.specs.Service.{checkedOf, buildingOf}
+use Rattle.faults.specs.declared.service.Way.{Way}
+use Rattle.faults.specs.declared.service.Way.the-variants.{BothLow, BothHigh}
+use Rattle.faults.specs.Service.{probingOf}
+
+-- What a service answers: check's numbers; the file that build writes to a buffer of its length; the pairs that a run of a netlist
+-- writes; probe's input, output and way.
+pub data Case : Type 0 where
+  checks : (table : List ℕ) (refusal contacts outputs gates depth : ℕ) → Case
+  builds : (table : List ℕ) (length : ℕ) (file : List ℕ) → Case
+  runs : (netlist rails holds pairs : List ℕ) → Case
+  probes : (table hold : List ℕ) (input output : ℕ) (way : Way) → Case
+
+-- Buffers that are always long enough here.
+abbrev room : List ℕ
+room = replicate 100 0
+
+abbrev pub Holds : Case → Type 0
+Holds (checks table refusal contacts outputs gates depth) =
+    checkedOf table ≡ record { refusal = refusal; contacts = contacts; outputs = outputs; gates = gates; depth = depth }
+Holds (builds table length file) =
+    let b = buildingOf table (replicate length 0) in (b .refusal ≡ 0) × (b .length ≡ length) × (b .file ≡ file)
+Holds (runs netlist rails holds pairs) =
+    let r = runOf netlist rails holds (replicate 17 0) (replicate 2 0) in (r .refusal ≡ 0) × (r .pairs ≡ pairs)
+Holds (probes table hold input output way) =
+    let p = probingOf table hold room .answer in (p .refusal ≡ 0) × (p .input ≡ input) × (p .output ≡ output) × (p .way ≡ way)
+
+abbrev pub AllHold : List Case → Type 0
+AllHold [] = Unit
+AllHold (c ∷ cs) = Holds c × AllHold cs
+
+-- The selector: the permit is contact 2 while contact 1 is open, else contact 0.
+abbrev pub selector : List ℕ
+selector =
+    1 ∷ 0 ∷ 1 ∷ 3 ∷ 2 ∷ 0 ∷ 1 ∷ 0 ∷ 3 ∷ 0 ∷ 2 ∷ 0 ∷ 1 ∷ 3 ∷ 0 ∷ 4 ∷ 0 ∷ 1 ∷ 0 ∷ 2 ∷ 3 ∷ 0 ∷ 6 ∷ 0 ∷ 1 ∷ 0 ∷ 0 ∷ 1 ∷ 1 ∷ []
+
+-- AND 3 5; AND 2 5; OR 8 9; AND 3 4; AND 2 4; AND 10 7; OR 13 11; AND 10 6; OR 15 12. True line 16, false line 14.
+abbrev pub selectorFile : List ℕ
+selectorFile =
+    1 ∷ 0 ∷ 1 ∷ 3 ∷ 4 ∷ 0 ∷ 45
+    ∷ 0 ∷ 0 ∷ 3 ∷ 0 ∷ 5
+    ∷ 0 ∷ 0 ∷ 2 ∷ 0 ∷ 5
+    ∷ 1 ∷ 0 ∷ 8 ∷ 0 ∷ 9
+    ∷ 0 ∷ 0 ∷ 3 ∷ 0 ∷ 4
+    ∷ 0 ∷ 0 ∷ 2 ∷ 0 ∷ 4
+    ∷ 0 ∷ 0 ∷ 10 ∷ 0 ∷ 7
+    ∷ 1 ∷ 0 ∷ 13 ∷ 0 ∷ 11
+    ∷ 0 ∷ 0 ∷ 10 ∷ 0 ∷ 6
+    ∷ 1 ∷ 0 ∷ 15 ∷ 0 ∷ 12
+    ∷ 5 ∷ 0 ∷ 4 ∷ 0 ∷ 16 ∷ 0 ∷ 14 ∷ []
+
+-- One contact.
+abbrev pub single : List ℕ
+single = 1 ∷ 0 ∷ 1 ∷ 1 ∷ 2 ∷ 0 ∷ 1 ∷ 0 ∷ 3 ∷ 0 ∷ 2 ∷ 0 ∷ 1 ∷ []
+
+abbrev pub starred : List Case
+starred =
+    checks selector 0 3 1 9 4
+    ∷ builds selector 59 selectorFile
+    -- Input 3: contacts 0 and 1 closed, contact 2 open.
+    ∷ runs selectorFile (1 ∷ 0 ∷ 1 ∷ 0 ∷ 0 ∷ 1 ∷ []) [] (1 ∷ 0 ∷ [])
+    -- Input 6 with line 10 held at 0: contact 1 is closed, pair 01 all the same.
+    ∷ runs selectorFile (0 ∷ 1 ∷ 1 ∷ 0 ∷ 1 ∷ 0 ∷ []) (0 ∷ 10 ∷ 0 ∷ []) (0 ∷ 1 ∷ [])
+    ∷ probes selector (0 ∷ 10 ∷ 0 ∷ []) 0 0 BothLow
+    ∷ probes selector (0 ∷ 10 ∷ 1 ∷ []) 3 0 BothHigh
+    -- Line 14 held at 0 and line 16 at 1, input 0: pair 10, wrong; mixed holds carry no claim.
+    ∷ runs selectorFile (0 ∷ 1 ∷ 0 ∷ 1 ∷ 0 ∷ 1 ∷ []) (0 ∷ 14 ∷ 0 ∷ 0 ∷ 16 ∷ 1 ∷ []) (1 ∷ 0 ∷ [])
+    ∷ checks single 0 1 1 0 0
+    ∷ builds single 14 (1 ∷ 0 ∷ 1 ∷ 1 ∷ 4 ∷ 0 ∷ 0 ∷ 5 ∷ 0 ∷ 4 ∷ 0 ∷ 2 ∷ 0 ∷ 3 ∷ [])
+    -- Two contacts, one output, node 0: two alike nodes; a node out of turn; a level whose edges are equal.
+    ∷ checks (1 ∷ 0 ∷ 1 ∷ 2 ∷ 2 ∷ 0 ∷ 1 ∷ 0 ∷ 3 ∷ 0 ∷ 2 ∷ 0 ∷ 1 ∷ 3 ∷ 0 ∷ 4 ∷ 0 ∷ 1 ∷ 0 ∷ 1 ∷ []) 6 0 0 0 0
+    ∷ checks (1 ∷ 0 ∷ 1 ∷ 2 ∷ 2 ∷ 0 ∷ 1 ∷ 0 ∷ 3 ∷ 0 ∷ 2 ∷ 1 ∷ 0 ∷ 3 ∷ 0 ∷ 4 ∷ 0 ∷ 1 ∷ 1 ∷ 0 ∷ []) 7 0 0 0 0
+    ∷ checks (1 ∷ 0 ∷ 1 ∷ 2 ∷ 2 ∷ 0 ∷ 1 ∷ 0 ∷ 3 ∷ 0 ∷ 2 ∷ 0 ∷ 0 ∷ 3 ∷ 0 ∷ 2 ∷ 0 ∷ 1 ∷ []) 8 0 0 0 0
+    ∷ []

@@ -1,0 +1,88 @@
+// The five services for C. include/pilgodur.h has their prototypes; a byte string is a pointer and then a length there.
+use diagram::Reading;
+use faults::Way;
+use synthesis::Built;
+use synthesis::Checked;
+ghost use mathlib.Core.Path.{_≡_};
+ghost use Rattle.diagram.specs.Table.{tableOf, readingOf};
+ghost use Rattle.netlist.specs.Service.{runOf};
+ghost use Rattle.synthesis.specs.Service.{checkedOf, buildingOf};
+ghost use Rattle.faults.specs.Service.{probingOf};
+ghost use Rattle.pilgodur.specs.Answers.{wayNumber, probedBy};
+
+// What probe returns to C; the way is 0 for both low, 1 for both high.
+#[repr(C)]
+pub struct Probed {
+    pub refusal: u32,
+    pub input: u32,
+    pub output: u32,
+    pub way: u32,
+}
+
+// Checks a table: questions 1 to 8; its contacts and outputs, and the gates and depth of its netlist.
+#[no_mangle]
+pub extern "C" fn pilgodur_check(table: &[u8]) -> Checked
+    ensures { λ r. ⌜ r ≡ checkedOf (now (table .entry)) ⌝ }
+{
+    synthesis::check(table)
+}
+
+// Builds a table's netlist: questions 1 to 8, then 9; the file's bytes and its length.
+#[no_mangle]
+pub extern "C" fn pilgodur_build(table: &[u8], file: &mut [u8]) -> Built
+    ensures { λ r. ⌜ r .refusal ≡ buildingOf (now (table .entry)) (now (file .entry)) .refusal ⌝ }
+    ensures { λ r. ⌜ r .length ≡ buildingOf (now (table .entry)) (now (file .entry)) .length ⌝ }
+    ensures { λ _. ⌜ now (file .exit) ≡ buildingOf (now (table .entry)) (now (file .entry)) .file ⌝ }
+{
+    synthesis::build(table, file)
+}
+
+// Reads a table's outputs off at an input: questions 1 to 8, then 10.
+#[no_mangle]
+pub extern "C" fn pilgodur_read_off(table: &[u8], input: u32) -> Reading
+    ensures { λ r. ⌜ r ≡ readingOf (tableOf (now (table .entry))) input ⌝ }
+{
+    diagram::read_off(table, input)
+}
+
+// Runs a netlist with lines held: questions 11 to 14, then 9 for either buffer.
+#[no_mangle]
+pub extern "C" fn pilgodur_run(
+    netlist: &[u8],
+    rails: &[u8],
+    holds: &[u8],
+    lines: &mut [u8],
+    pairs: &mut [u8],
+) -> u32
+    ensures { λ r. ⌜ r ≡ runOf (now (netlist .entry)) (now (rails .entry)) (now (holds .entry)) (now (lines .entry)) (now (pairs .entry)) .refusal ⌝ }
+    ensures { λ _. ⌜ now (lines .exit) ≡ runOf (now (netlist .entry)) (now (rails .entry)) (now (holds .entry)) (now (lines .entry)) (now (pairs .entry)) .lines ⌝ }
+    ensures { λ _. ⌜ now (pairs .exit) ≡ runOf (now (netlist .entry)) (now (rails .entry)) (now (holds .entry)) (now (lines .entry)) (now (pairs .entry)) .pairs ⌝ }
+{
+    netlist::run(netlist, rails, holds, lines, pairs)
+}
+
+// The number of a way.
+fn way_number(way: Way) -> u32
+    ensures { λ r. ⌜ r ≡ wayNumber way ⌝ }
+{
+    match way {
+        Way::BothLow => 0,
+        Way::BothHigh => 1,
+    }
+}
+
+// Probes a stuck line: questions 1 to 8, 14, then 9.
+#[no_mangle]
+pub extern "C" fn pilgodur_probe(table: &[u8], hold: &[u8], buffer: &mut [u8]) -> Probed
+    ensures { λ r. ⌜ r ≡ probedBy (probingOf (now (table .entry)) (now (hold .entry)) (now (buffer .entry)) .answer) ⌝ }
+    ensures { λ _. ⌜ now (buffer .exit) ≡ probingOf (now (table .entry)) (now (hold .entry)) (now (buffer .entry)) .buffer ⌝ }
+{
+    let probed = faults::probe(table, hold, buffer);
+    let way = probed.way;
+    Probed {
+        refusal: probed.refusal,
+        input: probed.input,
+        output: probed.output,
+        way: way_number(way),
+    }
+}

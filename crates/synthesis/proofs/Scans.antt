@@ -1,0 +1,119 @@
+-- The depths of lines, worked out in one scan of the gates.
+use Prim.Native.Nat.{ℕ, zero, suc, _+_, _*_, _≤_, _<_, max}
+use native.Mathlib.Nat.{add-zero}
+use native.Mathlib.Numerals.{add-one}
+use native.Mathlib.Omega.{arith}
+use mathlib.Core.Path.{_≡_, refl, sym, ap, ap₂, _∙_}
+use mathlib.Core.List.{List, [], _∷_, _++_, map, map-append, append-assoc, append-nil}
+use lib.ListN.{length, getD, take, set, replicate}
+use lib.Seq.{take-suc-set}
+use Rattle.fields.specs.Fields.{numberOf}
+use Rattle.netlist.specs.declared.Gate.{Gate}
+use Rattle.netlist.specs.Netlist.{gateAt, listed}
+use Rattle.netlist.specs.Run.{Driver, Rule, rail, gate, drive, workOut}
+use Rattle.netlist.proofs.Lists.{listed-more}
+use Rattle.netlist.proofs.Runs.{run-append, run-more}
+use Rattle.synthesis.specs.Board.{largest, depthsOf, depthOf}
+use Rattle.synthesis.specs.Written.{depthsFrom}
+
+largest-more : (xs : List ℕ) (y : ℕ) → largest (xs ++ (y ∷ [])) ≡ max (largest xs) y
+largest-more [] y = omega arith
+largest-more (x ∷ xs) y = omega (arith, largest-more xs y)
+
+largest-at : (xs : List ℕ) (i : ℕ) → getD xs i 0 ≤ largest xs
+largest-at [] i = omega arith
+largest-at (x ∷ xs) zero = omega arith
+largest-at (x ∷ xs) (suc i) = omega (arith, largest-at xs i)
+
+largest-zeros : (n : ℕ) → largest (replicate n 0) ≡ 0
+largest-zeros zero = refl
+largest-zeros (suc n) = omega (arith, largest-zeros n)
+
+abbrev rule : Rule ℕ
+rule = record { op = λ k a b. suc (max a b); shows = λ x v. v; none = 0 }
+
+-- The depth of a gate, given those of the lines before it.
+abbrev pub deeper : List ℕ → Gate → ℕ
+deeper ws g = suc (max (getD ws (g .left) 0) (getD ws (g .right) 0))
+
+module _ (gates : List ℕ) (first : ℕ) where
+  from-none : depthsFrom gates first 0 ≡ replicate first 0
+  unfolding depthsFrom listed workOut
+  from-none = refl
+
+  from-more : (g : ℕ) → depthsFrom gates first (g + 1) ≡ depthsFrom gates first g ++ (deeper (depthsFrom gates first g) (gateAt gates g) ∷ [])
+  unfolding depthsFrom drive
+  from-more g =
+      ap (λ (ds : List (Driver ℕ)). workOut rule ds (replicate first 0))
+      (ap (map gate) (listed-more (gateAt gates) g) ∙ map-append gate (listed (gateAt gates) g 0) (gateAt gates g ∷ []))
+      ∙ run-more rule (map gate (listed (gateAt gates) g 0)) (gate (gateAt gates g)) (replicate first 0)
+
+-- The depth of gate g, as it is worked out from its bytes.
+pub gate-depth : (gates ws : List ℕ) (g : ℕ) {a b left right m : ℕ} → a ≡ numberOf (getD gates (5 * g + 1) 0) (getD gates (5 * g + 2) 0) →
+    b ≡ numberOf (getD gates (5 * g + 3) 0) (getD gates (5 * g + 4) 0) → left ≡ getD ws a 0 → right ≡ getD ws b 0 →
+    m ≡ max left right → m + 1 ≡ deeper ws (gateAt gates g)
+gate-depth gates ws g {a} {b} {m = m} ea eb el er em =
+    let at-two : 5 * g + 2 ≡ 5 * g + 1 + 1 = omega arith in
+    let at-four : 5 * g + 4 ≡ 5 * g + 3 + 1 = omega arith in
+    let first : a ≡ gateAt gates g .left = rw at-two at ea in
+    let second : b ≡ gateAt gates g .right = rw at-four at eb in
+    add-one m ∙ ap suc (em ∙ ap₂ max (el ∙ ap (λ (i : ℕ). getD ws i 0) first) (er ∙ ap (λ (i : ℕ). getD ws i 0) second))
+
+-- What holds after the first gates: their depths are known, and the largest.
+pub record Scanned (gates : List ℕ) (first g : ℕ) (depths : List ℕ) (deepest : ℕ) : Type 0 where
+  pub known : take (first + g) depths ≡ depthsFrom gates first g
+  pub top : deepest ≡ largest (depthsFrom gates first g)
+  pub few : deepest ≤ g
+
+pub scan-none : (gates depths : List ℕ) (first : ℕ) → take first depths ≡ replicate first 0 → Scanned gates first 0 depths 0
+scan-none gates depths first e =
+    record {
+      known = rw (add-zero first) (e ∙ sym (from-none gates first));
+      top = sym (ap largest (from-none gates first) ∙ largest-zeros first);
+      few = omega arith;
+    }
+
+module _ {gates : List ℕ} {first g : ℕ} {depths : List ℕ} {deepest : ℕ} (s : Scanned gates first g depths deepest) where
+  pub scan-few : (line : ℕ) → getD (take (first + g) depths) line 0 ≤ g
+  scan-few line = rw (s .known) (omega (arith, largest-at (depthsFrom gates first g) line, s .top, s .few))
+
+  pub scan-more : (x next : ℕ) → first + g < length depths → x ≡ deeper (take (first + g) depths) (gateAt gates g) →
+      next ≡ max deepest x → Scanned gates first (g + 1) (set depths (first + g) x) next
+  scan-more x next room e m =
+      let more = from-more gates first g in
+      let depth : x ≡ deeper (depthsFrom gates first g) (gateAt gates g) = rw (s .known) at e in
+      let place : first + (g + 1) ≡ suc (first + g) = omega arith in
+      let left = scan-few (gateAt gates g .left) in
+      let right = scan-few (gateAt gates g .right) in
+      record {
+        known =
+            rw place
+            (take-suc-set depths (first + g) x room
+            ∙ ap₂ (λ (ws : List ℕ) (y : ℕ). ws ++ (y ∷ [])) (s .known) depth
+            ∙ sym more);
+        top = m ∙ ap₂ max (s .top) depth ∙ sym (ap largest more ∙ largest-more (depthsFrom gates first g) _);
+        few = omega (arith, s .few);
+      }
+
+-- Constants and rails have depth 0.
+rails-zero : (k : ℕ) (vs : List ℕ) → workOut rule (replicate k (rail 0)) vs ≡ vs ++ replicate k 0
+unfolding workOut drive
+rails-zero zero vs = sym (append-nil vs)
+rails-zero (suc k) vs = rails-zero k (vs ++ (0 ∷ [])) ∙ append-assoc vs (0 ∷ []) (replicate k 0)
+
+pub depth-from : (gates : List ℕ) (n count : ℕ) →
+    largest (depthsFrom gates (2 + 2 * n) count)
+    ≡ depthOf (record { contacts = n; gates = listed (gateAt gates) count 0; pairs = [] })
+unfolding depthOf depthsOf depthsFrom
+depth-from gates n count =
+    let ds = map gate (listed (gateAt gates) count 0) in
+    let lines : 2 + 2 * n ≡ suc (suc (2 * n)) = omega arith in
+    ap largest
+    (ap (λ (k : ℕ). workOut rule ds (replicate k 0)) lines
+    ∙ ap (workOut rule ds) (sym (rails-zero (2 * n) (0 ∷ 0 ∷ [])))
+    ∙ sym (run-append rule (replicate (2 * n) (rail 0)) ds (0 ∷ 0 ∷ [])))
+
+pub zeros-taken : (k n : ℕ) → k ≤ n → take k (replicate {A = ℕ} n 0) ≡ replicate k 0
+zeros-taken zero n h = refl
+zeros-taken (suc k) zero h = absurd (omega arith)
+zeros-taken (suc k) (suc n) h = ap (_∷_ 0) (zeros-taken k n (omega arith))

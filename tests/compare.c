@@ -1,0 +1,515 @@
+/* Compares the library with the reference, call by call, on random cases, and asks the demands of boards that the library builds.
+ *
+ *     compare [SEED [CASES]]
+ *
+ * A case is one call of one service. Both sides get the same bytes, each string between guards, and every byte of every string is
+ * looked at afterwards. Exit status 0: no differences and every number was hit; 1: not so; 2: bad usage. */
+#define _GNU_SOURCE
+#include <errno.h>
+#include <inttypes.h>
+#include <signal.h>
+#include <stdio.h>
+#include <stdlib.h>
+#include <string.h>
+#include <unistd.h>
+
+#include "../include/pilgodur.h"
+#include "damage.h"
+#include "demands.h"
+#include "lent.h"
+#include "reference.h"
+
+enum { STRINGS = 5, NUMBERS = 5, REFUSALS = 15, NOISE = 1 << 18, MOST_DIFFERENCES = 10 };
+enum service { CHECK, BUILD, READ_OFF, RUN, PROBE, SERVICES };
+enum side { LIBRARY, REFERENCE, SIDES };
+
+static const char *const service_names[SERVICES] = {"check", "build", "read-off", "run", "probe"};
+static const char *const side_names[SIDES] = {"library", "reference"};
+static const unsigned string_counts[SERVICES] = {1, 2, 1, 5, 3};
+static const unsigned number_counts[SERVICES] = {5, 2, 2, 1, 4};
+static const char *const string_names[SERVICES][STRINGS] = {
+    {"table"}, {"table", "file"}, {"table"}, {"netlist", "rails", "holds", "lines", "pairs"}, {"table", "hold", "buffer"}};
+static const char *const number_names[SERVICES][NUMBERS] = {
+    {"refusal", "contacts", "outputs", "gates", "depth"},
+    {"refusal", "length"},
+    {"refusal", "word"},
+    {"refusal"},
+    {"refusal", "input", "output", "way"}};
+
+/* The numbers that each service can give, as a set of bits. */
+static const unsigned possible[SERVICES] = {0x1ff, 0x3ff, 0x5ff, 0x7a01, 0x43ff};
+
+/* One call: the strings in the order of the parameters. */
+struct call {
+    enum service service;
+    uint32_t input;
+    const uint8_t *content[STRINGS];
+    size_t length[STRINGS];
+    bool written[STRINGS]; /* a buffer */
+    size_t need[STRINGS];  /* the bytes that an answer writes to it */
+};
+
+struct answer {
+    uint32_t number[NUMBERS];
+};
+
+static struct dice dice;
+static struct lent lent[SIDES][STRINGS];
+static uint8_t noise[NOISE];
+static uint64_t seed = 1;
+static unsigned long cases;
+static unsigned long differences;
+static unsigned long hits[SERVICES][REFUSALS];
+static unsigned long accepted_contacts[13], accepted_outputs[9], accepted_width[9], with_constant;
+static struct demands demands;
+static char where[160]; /* what is being done, for the message after a fault */
+
+/* ---- One case. ---- */
+
+static struct answer perform(enum side side, const struct call *call)
+{
+    bool ours = side == LIBRARY;
+    const struct lent *s = lent[side];
+    struct answer a = {{0}};
+    if (call->service == CHECK) {
+        pilgodur_checked r = (ours ? pilgodur_check : ref_check)(s[0].bytes, s[0].length);
+        a = (struct answer){{r.refusal, r.contacts, r.outputs, r.gates, r.depth}};
+    } else if (call->service == BUILD) {
+        pilgodur_built r = (ours ? pilgodur_build : ref_build)(s[0].bytes, s[0].length, s[1].bytes, s[1].length);
+        a = (struct answer){{r.refusal, r.length}};
+    } else if (call->service == READ_OFF) {
+        pilgodur_reading r = (ours ? pilgodur_read_off : ref_read_off)(s[0].bytes, s[0].length, call->input);
+        a = (struct answer){{r.refusal, r.word}};
+    } else if (call->service == RUN) {
+        a.number[0] = (ours ? pilgodur_run : ref_run)(s[0].bytes, s[0].length, s[1].bytes, s[1].length, s[2].bytes,
+                                                      s[2].length, s[3].bytes, s[3].length, s[4].bytes, s[4].length);
+    } else {
+        pilgodur_probed r = (ours ? pilgodur_probe : ref_probe)(s[0].bytes, s[0].length, s[1].bytes, s[1].length, s[2].bytes,
+                                                                s[2].length);
+        a = (struct answer){{r.refusal, r.input, r.output, r.way}};
+    }
+    return a;
+}
+
+/* Whether a side kept to the rules for lent bytes: none outside a buffer, none after a refusal, none past what is written. */
+static const char *misuse(enum side side, const struct call *call, const struct answer *answer)
+{
+    for (unsigned i = 1; i < NUMBERS && answer->number[0] != 0; i++)
+        if (answer->number[i] != 0)
+            return "a refusal comes with a number that is not zero";
+    for (unsigned k = 0; k < string_counts[call->service]; k++) {
+        bool answered = call->written[k] && answer->number[0] == 0;
+        size_t kept = answered ? call->need[k] : 0;
+        if (kept > call->length[k])
+            return "a buffer that is too short is not refused";
+        if (!untouched_from(&lent[side][k], kept))
+            return answered ? "a byte past the answer or outside the buffer has changed" : "a lent byte has changed";
+    }
+    return NULL;
+}
+
+static const char *disagreement(const struct call *call, const struct answer *answers)
+{
+    if (memcmp(&answers[LIBRARY], &answers[REFERENCE], sizeof *answers) != 0)
+        return "the answers differ";
+    for (unsigned k = 0; k < string_counts[call->service]; k++)
+        if (memcmp(lent[LIBRARY][k].bytes, lent[REFERENCE][k].bytes, call->length[k]) != 0)
+            return "the written bytes differ";
+    return NULL;
+}
+
+static void print_string(const struct call *call, unsigned k)
+{
+    printf("  %s, %zu bytes", string_names[call->service][k], call->length[k]);
+    if (call->written[k]) {
+        const uint8_t *a = lent[LIBRARY][k].bytes;
+        const uint8_t *b = lent[REFERENCE][k].bytes;
+        size_t i = 0;
+        while (i < call->length[k] && a[i] == b[i])
+            i++;
+        if (i < call->length[k])
+            printf(": first differ at byte %zu, library %02x, reference %02x", i, a[i], b[i]);
+    } else {
+        printf(" hex:");
+        for (size_t i = 0; i < call->length[k]; i++)
+            printf("%02x", call->content[k][i]);
+    }
+    printf("\n");
+}
+
+static void stop_after_many(void)
+{
+    if (differences + demands.failures >= MOST_DIFFERENCES) {
+        printf("stopped after %lu differences\n", differences + demands.failures);
+        exit(1);
+    }
+}
+
+static void report(const struct call *call, const struct answer *answers, const char *who, const char *what)
+{
+    printf("difference in case %lu, seed %" PRIu64 ", %s: %s%s%s\n", cases, seed, service_names[call->service], who,
+           *who ? ": " : "", what);
+    for (unsigned side = 0; side < SIDES; side++) {
+        printf("  %-10s", side_names[side]);
+        for (unsigned i = 0; i < number_counts[call->service]; i++)
+            printf(" %s %" PRIu32, number_names[call->service][i], answers[side].number[i]);
+        printf("\n");
+    }
+    if (call->service == READ_OFF)
+        printf("  input %" PRIu32 "\n", call->input);
+    for (unsigned k = 0; k < string_counts[call->service]; k++)
+        print_string(call, k);
+    differences++;
+    stop_after_many();
+}
+
+static void compare(const struct call *call)
+{
+    struct answer answers[SIDES];
+    enum place places[STRINGS];
+    cases++;
+    snprintf(where, sizeof where, "case %lu, seed %" PRIu64 ", %s", cases, seed, service_names[call->service]);
+    for (unsigned k = 0; k < STRINGS; k++)
+        places[k] = (enum place)roll(&dice, PLACES);
+    for (unsigned side = 0; side < SIDES; side++) {
+        for (unsigned k = 0; k < string_counts[call->service]; k++)
+            lend(&lent[side][k], call->content[k], call->length[k], places[k]);
+        answers[side] = perform((enum side)side, call);
+    }
+    const char *what = disagreement(call, answers);
+    if (what != NULL)
+        report(call, answers, "", what);
+    for (unsigned side = 0; side < SIDES && what == NULL; side++) {
+        what = misuse((enum side)side, call, &answers[side]);
+        if (what != NULL)
+            report(call, answers, side_names[side], what);
+    }
+    uint32_t refusal = answers[REFERENCE].number[0];
+    if (what == NULL && refusal < REFUSALS)
+        hits[call->service][refusal]++;
+}
+
+/* ---- Strings for a call. ---- */
+
+static void give(struct call *call, unsigned k, const struct file *file)
+{
+    call->content[k] = file->bytes;
+    call->length[k] = file->length;
+}
+
+/* Lends a buffer of noise: as long as needed, one byte short, longer, much shorter or of no length. */
+static void lend_buffer(struct call *call, unsigned k, size_t need)
+{
+    unsigned kind = roll(&dice, 100);
+    size_t length = need;
+    if (kind < 15)
+        length = need == 0 ? 0 : need - 1;
+    else if (kind < 35)
+        length = need + 1 + roll(&dice, 40);
+    else if (kind < 40)
+        length = roll(&dice, (uint32_t)need + 1);
+    else if (kind < 43)
+        length = 0;
+    call->content[k] = noise + roll(&dice, NOISE / 2);
+    call->length[k] = length;
+    call->written[k] = true;
+    call->need[k] = need;
+}
+
+static void note_accepted(const struct diagram *diagram)
+{
+    unsigned widest = 2;
+    for (unsigned level = 0; level < diagram->contacts; level++)
+        if (diagram->width[level] > widest)
+            widest = diagram->width[level];
+    accepted_contacts[diagram->contacts]++;
+    accepted_outputs[diagram->outputs]++;
+    accepted_width[widest]++;
+    for (unsigned j = 0; j < diagram->outputs; j++) {
+        unsigned node = diagram->output[j];
+        unsigned level = 0;
+        while (level < diagram->contacts && diagram->edge[level][node][0] == diagram->edge[level][node][1])
+            node = diagram->edge[level++][node][0];
+        if (level == diagram->contacts) {
+            with_constant++;
+            return;
+        }
+    }
+}
+
+/* A diagram of any size; large ones of 9 to 12 contacts are drawn less often. */
+static void draw_diagram(struct diagram *diagram)
+{
+    unsigned contacts = 1 + roll(&dice, chance(&dice, 70) ? 8 : 12);
+    unsigned kind = roll(&dice, 100);
+    if (kind < 2)
+        widest_diagram(&dice, contacts, diagram);
+    else if (kind < 3)
+        largest_diagram(&dice, contacts, diagram);
+    else
+        random_diagram(&dice, contacts, 1 + roll(&dice, 8), diagram);
+}
+
+/* A table: good, damaged, good but for some bytes, or random. */
+static void draw_table(struct file *table)
+{
+    unsigned kind = roll(&dice, 100);
+    struct diagram diagram;
+    draw_diagram(&diagram);
+    table->length = table_of(&diagram, table->bytes);
+    if (kind < 55)
+        note_accepted(&diagram);
+    else if (kind < 85)
+        damaged_table(&dice, &diagram, table);
+    else if (kind < 94)
+        flip_bytes(&dice, table);
+    else if (kind < 97)
+        random_fields(&dice, table);
+    else
+        random_bytes(&dice, table);
+}
+
+static uint32_t draw_input(const struct file *table)
+{
+    unsigned contacts = table->length > 3 ? table->bytes[3] % 16 : 3;
+    unsigned kind = roll(&dice, 100);
+    if (kind < 80)
+        return roll(&dice, 1u << contacts);
+    if (kind < 88)
+        return 1u << contacts;
+    return kind < 94 ? (uint32_t)-1 - roll(&dice, 3) : roll(&dice, 1u << 31);
+}
+
+/* A netlist that gets a yes to questions 11 and 12: built from a table, or any. */
+static void draw_netlist(struct file *netlist)
+{
+    struct diagram diagram;
+    uint8_t table[TABLE_MAX];
+    if (chance(&dice, 40)) {
+        random_netlist(&dice, netlist);
+        return;
+    }
+    draw_diagram(&diagram);
+    netlist->length = ref_build(table, table_of(&diagram, table), netlist->bytes, FILE_ROOM).length;
+}
+
+/* ---- Cases of each service. ---- */
+
+static void draw_hold(unsigned lines, struct file *hold)
+{
+    one_hold(&dice, lines, hold);
+    if (chance(&dice, 15))
+        damage_holds(&dice, lines, hold);
+    else if (chance(&dice, 5))
+        not_one_hold(&dice, lines, hold);
+}
+
+static void table_case(enum service service)
+{
+    static struct file table, netlist, hold;
+    struct call call = {.service = service};
+    draw_table(&table);
+    give(&call, 0, &table);
+    if (service == READ_OFF)
+        call.input = draw_input(&table);
+    if (service == BUILD || service == PROBE) {
+        netlist.length = ref_build(table.bytes, table.length, netlist.bytes, FILE_ROOM).length;
+        size_t need = netlist.length != 0 ? netlist.length : roll(&dice, 300);
+        unsigned lines = netlist.length != 0 ? lines_of(&netlist) : 2 + roll(&dice, 50);
+        lend_buffer(&call, service == BUILD ? 1 : 2, service == BUILD ? need : need + lines);
+        draw_hold(lines, &hold);
+        if (service == PROBE)
+            give(&call, 1, &hold);
+    }
+    compare(&call);
+}
+
+static void run_case(void)
+{
+    static struct file netlist, rails, holds;
+    struct call call = {.service = RUN};
+    draw_netlist(&netlist);
+    unsigned lines = lines_of(&netlist);
+    random_rails(&dice, contacts_of(&netlist), &rails);
+    random_holds(&dice, lines, roll(&dice, 3), &holds);
+    lend_buffer(&call, 3, lines);
+    lend_buffer(&call, 4, 2 * (size_t)outputs_of(&netlist));
+    unsigned kind = roll(&dice, 100);
+    if (kind < 25)
+        damage_netlist(&dice, &netlist);
+    else if (kind < 30)
+        flip_bytes(&dice, &netlist);
+    else if (kind < 32)
+        random_fields(&dice, &netlist);
+    else if (kind < 34)
+        random_bytes(&dice, &netlist);
+    if (chance(&dice, 10))
+        damage_rails(&dice, &rails);
+    if (chance(&dice, 12))
+        damage_holds(&dice, lines, &holds);
+    call.need[3] = lines_of(&netlist);
+    call.need[4] = 2 * (size_t)outputs_of(&netlist);
+    give(&call, 0, &netlist);
+    give(&call, 1, &rails);
+    give(&call, 2, &holds);
+    compare(&call);
+}
+
+/* Every line of a small board at both values. */
+static void probe_all_lines(void)
+{
+    static struct file table, netlist, hold;
+    struct diagram diagram;
+    random_diagram(&dice, 1 + roll(&dice, 5), 1 + roll(&dice, 4), &diagram);
+    table.length = table_of(&diagram, table.bytes);
+    netlist.length = ref_build(table.bytes, table.length, netlist.bytes, FILE_ROOM).length;
+    unsigned lines = lines_of(&netlist);
+    for (unsigned line = 2; line < lines; line++)
+        for (unsigned value = 0; value < 2; value++) {
+            struct call call = {.service = PROBE};
+            hold.length = 0;
+            add_hold(&hold, line, value);
+            give(&call, 0, &table);
+            give(&call, 1, &hold);
+            lend_buffer(&call, 2, netlist.length + lines);
+            compare(&call);
+        }
+}
+
+static void check_some_board(void)
+{
+    struct diagram diagram;
+    if (chance(&dice, 50))
+        random_diagram(&dice, 1 + roll(&dice, 4), 1 + roll(&dice, 3), &diagram);
+    else
+        draw_diagram(&diagram);
+    snprintf(where, sizeof where, "board %lu, seed %" PRIu64, demands.boards, seed);
+    check_board(&dice, &diagram, &demands);
+    stop_after_many();
+}
+
+static void random_case(void)
+{
+    unsigned kind = roll(&dice, 100);
+    if (kind < 18)
+        table_case(CHECK);
+    else if (kind < 38)
+        table_case(BUILD);
+    else if (kind < 54)
+        table_case(READ_OFF);
+    else if (kind < 70)
+        table_case(PROBE);
+    else
+        run_case();
+}
+
+/* ---- The summary. ---- */
+
+static bool print_hits(void)
+{
+    bool all = true;
+    printf("%-9s", "refusal");
+    for (unsigned number = 0; number < REFUSALS; number++)
+        printf("%7u", number);
+    printf("\n");
+    for (unsigned service = 0; service < SERVICES; service++) {
+        printf("%-9s", service_names[service]);
+        for (unsigned number = 0; number < REFUSALS; number++) {
+            if (hits[service][number] == 0 && !(possible[service] >> number & 1))
+                printf("%7s", "-");
+            else
+                printf("%7lu", hits[service][number]);
+            all = all && (hits[service][number] != 0) == (possible[service] >> number & 1);
+        }
+        printf("\n");
+    }
+    return all;
+}
+
+static bool print_counts(const char *what, const unsigned long *count, unsigned from, unsigned to)
+{
+    bool all = true;
+    printf("accepted tables by %s, %u to %u:", what, from, to);
+    for (unsigned i = from; i <= to; i++) {
+        printf(" %lu", count[i]);
+        all = all && count[i] != 0;
+    }
+    printf("\n");
+    return all;
+}
+
+static int summary(void)
+{
+    printf("seed %" PRIu64 ", %lu cases\n", seed, cases);
+    bool all = print_hits();
+    all = print_counts("contacts", accepted_contacts, 1, 12) && all;
+    all = print_counts("outputs", accepted_outputs, 1, 8) && all;
+    all = print_counts("largest width", accepted_width, 2, 8) && all;
+    printf("accepted tables with a constant output: %lu\n", with_constant);
+    printf("boards checked by themselves: %lu, with %lu runs, %lu sets of lines held one way, %lu probes\n", demands.boards,
+           demands.inputs, demands.hold_sets, demands.probes);
+    if (!all || with_constant == 0)
+        printf("not every number that a service can give, and only those, was hit, or a size of table was missed\n");
+    printf("%lu differences\n", differences + demands.failures);
+    return all && with_constant != 0 && differences + demands.failures == 0 ? 0 : 1;
+}
+
+/* ---- The program. ---- */
+
+static void on_fault(int signal)
+{
+    static const char what[] = "\na byte outside a lent string was touched, or the program broke, in ";
+    ssize_t ignored = write(STDERR_FILENO, what, sizeof what - 1);
+    ignored += write(STDERR_FILENO, where, strlen(where));
+    ignored += write(STDERR_FILENO, "\n", 1);
+    (void)ignored;
+    (void)signal;
+    _exit(1);
+}
+
+static void watch_faults(void)
+{
+    struct sigaction action = {.sa_handler = on_fault};
+    sigaction(SIGSEGV, &action, NULL);
+    sigaction(SIGBUS, &action, NULL);
+    sigaction(SIGFPE, &action, NULL);
+    sigaction(SIGILL, &action, NULL);
+    sigaction(SIGABRT, &action, NULL);
+}
+
+static bool read_number(const char *text, uint64_t *number)
+{
+    char *end;
+    errno = 0;
+    *number = strtoull(text, &end, 10);
+    return errno == 0 && *text >= '0' && *text <= '9' && *end == '\0';
+}
+
+int main(int argc, char **argv)
+{
+    uint64_t count = 300000;
+    if (argc > 3 || (argc > 1 && !read_number(argv[1], &seed)) || (argc > 2 && !read_number(argv[2], &count))) {
+        fputs("usage: compare [SEED [CASES]]\n", stderr);
+        return 2;
+    }
+    setvbuf(stdout, NULL, _IOLBF, 0);
+    dice.state = seed;
+    for (size_t i = 0; i < NOISE; i++)
+        noise[i] = (uint8_t)roll(&dice, 256);
+    for (unsigned side = 0; side < SIDES; side++)
+        for (unsigned k = 0; k < STRINGS; k++)
+            open_lent(&lent[side][k]);
+    watch_faults();
+    for (uint64_t i = 0; cases < count; i++) {
+        random_case();
+        if (i % 200 == 0)
+            probe_all_lines();
+        if (i % 50 == 0)
+            check_some_board();
+    }
+    int status = summary();
+    for (unsigned side = 0; side < SIDES; side++)
+        for (unsigned k = 0; k < STRINGS; k++)
+            close_lent(&lent[side][k]);
+    return status;
+}

@@ -1,0 +1,569 @@
+#include "damage.h"
+
+#include <string.h>
+
+/* ---- Bytes and fields. ---- */
+
+static unsigned two_bytes(const uint8_t *at)
+{
+    return 256u * at[0] + at[1];
+}
+
+static void set_two_bytes(uint8_t *at, unsigned number)
+{
+    at[0] = (uint8_t)(number / 256);
+    at[1] = (uint8_t)number;
+}
+
+static void add_byte(struct file *file, unsigned byte)
+{
+    file->bytes[file->length++] = (uint8_t)byte;
+}
+
+static void add_two(struct file *file, unsigned number)
+{
+    add_byte(file, number / 256);
+    add_byte(file, number);
+}
+
+static void add_head(struct file *file, unsigned tag, unsigned length)
+{
+    add_byte(file, tag);
+    add_two(file, length);
+}
+
+/* A byte that is often a plausible node, tag or kind. */
+static unsigned any_byte(struct dice *dice)
+{
+    return chance(dice, 60) ? roll(dice, 9) : roll(dice, 256);
+}
+
+/* A byte where only 0 and 1 are good. */
+static unsigned above_one(struct dice *dice)
+{
+    return chance(dice, 50) ? 2 : 2 + roll(dice, 254);
+}
+
+static void erase(struct file *file, size_t at, size_t count)
+{
+    memmove(file->bytes + at, file->bytes + at + count, file->length - at - count);
+    file->length -= count;
+}
+
+/* Makes room at a place for bytes drawn at random. */
+static void insert(struct dice *dice, struct file *file, size_t at, size_t count)
+{
+    memmove(file->bytes + at + count, file->bytes + at, file->length - at);
+    file->length += count;
+    for (size_t i = 0; i < count; i++)
+        file->bytes[at + i] = (uint8_t)any_byte(dice);
+}
+
+static size_t field_length(const struct file *file, size_t at)
+{
+    return two_bytes(file->bytes + at + 1);
+}
+
+/* The place of field k of a file of whole fields; its length if there are not so many. */
+static size_t field_place(const struct file *file, unsigned k)
+{
+    size_t at = 0;
+    while (k-- > 0 && at < file->length)
+        at += 3 + field_length(file, at);
+    return at;
+}
+
+static void erase_field(struct file *file, size_t at)
+{
+    if (at < file->length)
+        erase(file, at, 3 + field_length(file, at));
+}
+
+/* Gives a field another length, with bytes dropped at the value's end or added there. */
+static void resize_field(struct dice *dice, struct file *file, size_t at, size_t length)
+{
+    if (at >= file->length)
+        return;
+    size_t old = field_length(file, at);
+    if (length < old)
+        erase(file, at + 3 + length, old - length);
+    else
+        insert(dice, file, at + 3 + old, length - old);
+    set_two_bytes(file->bytes + at + 1, (unsigned)length);
+}
+
+static void set_tag(struct dice *dice, struct file *file, size_t at)
+{
+    if (at < file->length)
+        file->bytes[at] = (uint8_t)any_byte(dice);
+}
+
+static void add_field(struct dice *dice, struct file *file, size_t at)
+{
+    unsigned length = roll(dice, 5);
+    insert(dice, file, at, 3 + (size_t)length);
+    set_two_bytes(file->bytes + at + 1, length);
+}
+
+/* ---- Damage to a diagram: questions 5 to 8. ---- */
+
+static void name_missing_node(struct dice *dice, struct diagram *d)
+{
+    unsigned excess = chance(dice, 70) ? 0 : roll(dice, 240);
+    if (chance(dice, 25)) {
+        d->output[roll(dice, d->outputs)] = (uint8_t)(d->width[0] + excess);
+        return;
+    }
+    unsigned level = roll(dice, d->contacts);
+    d->edge[level][roll(dice, d->width[level])][roll(dice, 2)] = (uint8_t)(d->width[level + 1] + excess);
+}
+
+static void make_twins(struct dice *dice, struct diagram *d)
+{
+    unsigned level = roll(dice, d->contacts);
+    unsigned width = d->width[level];
+    unsigned u = roll(dice, width);
+    if (width == 8 || (width > 1 && chance(dice, 50)))
+        memcpy(d->edge[level][(u + 1 + roll(dice, width - 1)) % width], d->edge[level][u], 2);
+    else
+        memcpy(d->edge[level][d->width[level]++], d->edge[level][u], 2);
+}
+
+static void swap_bytes(uint8_t *a, uint8_t *b, size_t count)
+{
+    for (size_t i = 0; i < count; i++) {
+        uint8_t byte = a[i];
+        a[i] = b[i];
+        b[i] = byte;
+    }
+}
+
+/* Two nodes of a level change numbers, and what mentions them follows. */
+static void swap_numbers(struct dice *dice, struct diagram *d, unsigned level)
+{
+    unsigned u = roll(dice, d->width[level]);
+    unsigned v = roll(dice, d->width[level]);
+    uint8_t *mention = level == 0 ? d->output : &d->edge[level - 1][0][0];
+    unsigned count = level == 0 ? d->outputs : 2u * d->width[level - 1];
+    if (u == v)
+        return;
+    swap_bytes(d->edge[level][u], d->edge[level][v], 2);
+    for (unsigned i = 0; i < count; i++)
+        mention[i] = (uint8_t)(mention[i] == u ? v : mention[i] == v ? u : mention[i]);
+}
+
+static void add_unmentioned_node(struct dice *dice, struct diagram *d, unsigned level)
+{
+    if (d->width[level] == 8)
+        return;
+    uint8_t *edge = d->edge[level][d->width[level]++];
+    edge[0] = (uint8_t)roll(dice, d->width[level + 1]);
+    edge[1] = (uint8_t)roll(dice, d->width[level + 1]);
+}
+
+static void spoil_numbering(struct dice *dice, struct diagram *d)
+{
+    unsigned level = roll(dice, d->contacts);
+    if (chance(dice, 60))
+        swap_numbers(dice, d, level);
+    else
+        add_unmentioned_node(dice, d, level);
+}
+
+/* A level that leads each node straight on. */
+static void insert_idle_level(struct dice *dice, struct diagram *d)
+{
+    if (d->contacts == 12)
+        return;
+    unsigned at = roll(dice, d->contacts + 1);
+    for (unsigned level = d->contacts++; level > at; level--) {
+        memcpy(d->edge[level], d->edge[level - 1], sizeof d->edge[level]);
+        d->width[level + 1] = d->width[level];
+    }
+    d->width[at + 1] = d->width[at];
+    d->width[d->contacts] = 2;
+    for (unsigned u = 0; u < d->width[at]; u++)
+        d->edge[at][u][0] = d->edge[at][u][1] = (uint8_t)u;
+    make_canonical(d);
+}
+
+/* ---- Damage to a table's bytes: questions 1 to 4. ---- */
+
+static void spoil_whole_fields(struct dice *dice, struct file *file)
+{
+    switch (roll(dice, 4)) {
+    case 0:
+        file->length -= file->length == 0 ? 0 : 1 + roll(dice, (uint32_t)file->length);
+        break;
+    case 1:
+        insert(dice, file, file->length, 1 + roll(dice, 2));
+        break;
+    case 2:
+        add_head(file, 3, 1 + roll(dice, 65535));
+        break;
+    default:
+        if (file->length > 3)
+            file->bytes[roll(dice, 2) == 0 ? 2 : 5]++;
+        break;
+    }
+}
+
+static void spoil_contacts(struct dice *dice, struct file *file)
+{
+    switch (roll(dice, 6)) {
+    case 0:
+        file->bytes[3] = 0;
+        break;
+    case 1:
+        file->bytes[3] = (uint8_t)(chance(dice, 50) ? 13 : 13 + roll(dice, 243));
+        break;
+    case 2:
+        set_tag(dice, file, 0);
+        break;
+    case 3:
+        resize_field(dice, file, 0, chance(dice, 50) ? 0 : 2 + roll(dice, 3));
+        break;
+    case 4:
+        erase_field(file, 0);
+        break;
+    default:
+        file->length = 0;
+        break;
+    }
+}
+
+static void spoil_outputs(struct dice *dice, struct file *file)
+{
+    size_t at = field_place(file, 1);
+    switch (roll(dice, 5)) {
+    case 0:
+        set_tag(dice, file, at);
+        break;
+    case 1:
+        resize_field(dice, file, at, 0);
+        break;
+    case 2:
+        resize_field(dice, file, at, 9 + (chance(dice, 50) ? 0 : roll(dice, 300)));
+        break;
+    case 3:
+        erase_field(file, at);
+        break;
+    default:
+        file->length = at;
+        break;
+    }
+}
+
+static void spoil_levels(struct dice *dice, struct file *file, unsigned contacts)
+{
+    size_t at = field_place(file, 2 + roll(dice, contacts));
+    switch (roll(dice, 6)) {
+    case 0:
+        erase_field(file, at);
+        break;
+    case 1:
+        add_field(dice, file, chance(dice, 50) ? at : file->length);
+        break;
+    case 2:
+        set_tag(dice, file, at);
+        break;
+    case 3:
+        resize_field(dice, file, at, 2 * (size_t)roll(dice, 9) + 1);
+        break;
+    case 4:
+        resize_field(dice, file, at, chance(dice, 50) ? 0 : 18 + 2 * (size_t)(chance(dice, 50) ? 0 : roll(dice, 130)));
+        break;
+    default:
+        insert(dice, file, at, 5);
+        memcpy(file->bytes + at, "\3\0\2\0\1", 5);
+        break;
+    }
+}
+
+static void damage_at(struct dice *dice, unsigned question, struct diagram *d, struct file *file)
+{
+    switch (question) {
+    case 8: insert_idle_level(dice, d); break;
+    case 7: spoil_numbering(dice, d); break;
+    case 6: make_twins(dice, d); break;
+    case 5: name_missing_node(dice, d); break;
+    case 4: spoil_levels(dice, file, d->contacts); break;
+    case 3: spoil_outputs(dice, file); break;
+    case 2: spoil_contacts(dice, file); break;
+    default: spoil_whole_fields(dice, file); break;
+    }
+}
+
+void damaged_table(struct dice *dice, const struct diagram *good, struct file *file)
+{
+    struct diagram d = *good;
+    unsigned aims = 1u << (1 + roll(dice, 8));
+    if (chance(dice, 35))
+        aims |= 1u << (1 + roll(dice, 8));
+    if (chance(dice, 10))
+        aims |= 1u << (1 + roll(dice, 8));
+    for (unsigned question = 8; question > 4; question--)
+        if (aims >> question & 1)
+            damage_at(dice, question, &d, file);
+    file->length = table_of(&d, file->bytes);
+    for (unsigned question = 4; question > 0; question--)
+        if (aims >> question & 1)
+            damage_at(dice, question, &d, file);
+}
+
+/* ---- Bytes without plan. ---- */
+
+void flip_bytes(struct dice *dice, struct file *file)
+{
+    for (unsigned i = 1 + roll(dice, 3); i > 0 && file->length > 0; i--)
+        file->bytes[roll(dice, (uint32_t)file->length)] = (uint8_t)any_byte(dice);
+}
+
+void random_bytes(struct dice *dice, struct file *file)
+{
+    file->length = 0;
+    insert(dice, file, 0, roll(dice, chance(dice, 50) ? 12 : 300));
+}
+
+void random_fields(struct dice *dice, struct file *file)
+{
+    file->length = 0;
+    for (unsigned i = roll(dice, 16); i > 0; i--) {
+        unsigned length = chance(dice, 30) ? 1 : roll(dice, 19);
+        size_t at = file->length;
+        insert(dice, file, at, 3 + (size_t)length);
+        file->bytes[at] = (uint8_t)(chance(dice, 90) ? 1 + roll(dice, 5) : roll(dice, 256));
+        set_two_bytes(file->bytes + at + 1, length);
+    }
+}
+
+/* ---- Netlists. ---- */
+
+unsigned contacts_of(const struct file *netlist)
+{
+    return netlist->bytes[3];
+}
+
+unsigned lines_of(const struct file *netlist)
+{
+    return 2 + 2 * contacts_of(netlist) + (unsigned)field_length(netlist, 4) / 5;
+}
+
+unsigned outputs_of(const struct file *netlist)
+{
+    size_t at = field_place(netlist, 2);
+    return at < netlist->length ? (unsigned)field_length(netlist, at) / 4 : 0;
+}
+
+static unsigned random_gate_count(struct dice *dice)
+{
+    unsigned kind = roll(dice, 100);
+    if (kind < 30)
+        return roll(dice, 8);
+    if (kind < 90)
+        return roll(dice, 150);
+    if (kind < 98)
+        return roll(dice, 1500);
+    return kind < 99 ? MOST_GATES : roll(dice, MOST_GATES);
+}
+
+void random_netlist(struct dice *dice, struct file *file)
+{
+    unsigned contacts = 1 + roll(dice, 12);
+    unsigned gates = random_gate_count(dice);
+    unsigned outputs = 1 + roll(dice, 8);
+    bool chained = chance(dice, 30);
+    unsigned line = 2 + 2 * contacts;
+    file->length = 0;
+    add_head(file, 1, 1);
+    add_byte(file, contacts);
+    add_head(file, 4, 5 * gates);
+    for (; line < 2 + 2 * contacts + gates; line++) {
+        add_byte(file, roll(dice, 2));
+        add_two(file, chained ? line - 1 - roll(dice, 3) : roll(dice, line));
+        add_two(file, roll(dice, line));
+    }
+    add_head(file, 5, 4 * outputs);
+    for (unsigned i = 0; i < 2 * outputs; i++)
+        add_two(file, chance(dice, 30) ? line - 1 : roll(dice, line));
+}
+
+/* Question 11, while the netlist is still sound: tags, lengths and what stands around them. */
+static void spoil_netlist_fields(struct dice *dice, struct file *file)
+{
+    unsigned k = roll(dice, 3);
+    size_t at = field_place(file, k);
+    switch (roll(dice, 7)) {
+    case 0:
+        set_tag(dice, file, at);
+        break;
+    case 1:
+        erase_field(file, at);
+        break;
+    case 2:
+        add_field(dice, file, chance(dice, 50) ? at : file->length);
+        break;
+    case 3:
+        resize_field(dice, file, at, field_length(file, at) + 1 + roll(dice, 4));
+        break;
+    case 4:
+        resize_field(dice, file, field_place(file, 2), chance(dice, 50) ? 0 : 4 * (9 + (size_t)roll(dice, 3)));
+        break;
+    case 5:
+        resize_field(dice, file, 4, 5 * (MOST_GATES + 1 + (chance(dice, 50) ? 0 : (size_t)roll(dice, 100))));
+        break;
+    default:
+        erase_field(file, at);
+        add_field(dice, file, file->length);
+        break;
+    }
+}
+
+static void spoil_framing(struct dice *dice, struct file *file)
+{
+    if (chance(dice, 50))
+        spoil_whole_fields(dice, file);
+    else
+        spoil_contacts(dice, file);
+}
+
+/* Question 12: a kind, a source or an output line. */
+static void spoil_gates(struct dice *dice, struct file *file)
+{
+    unsigned first = 2 + 2 * contacts_of(file);
+    unsigned lines = lines_of(file);
+    if (lines == first || chance(dice, 30)) {
+        uint8_t *output = file->bytes + field_place(file, 2) + 3 + 2 * roll(dice, 2 * outputs_of(file));
+        set_two_bytes(output, lines + (chance(dice, 60) ? 0 : roll(dice, 65536 - lines)));
+        return;
+    }
+    unsigned gate = roll(dice, lines - first);
+    uint8_t *at = file->bytes + 7 + 5 * gate;
+    if (chance(dice, 30))
+        at[0] = (uint8_t)above_one(dice);
+    else
+        set_two_bytes(at + 1 + 2 * roll(dice, 2), first + gate + (chance(dice, 60) ? 0 : roll(dice, 54000)));
+}
+
+void damage_netlist(struct dice *dice, struct file *file)
+{
+    unsigned kind = roll(dice, 100);
+    if (kind < 50)
+        spoil_gates(dice, file);
+    if (kind >= 40 && kind < 80)
+        spoil_netlist_fields(dice, file);
+    if (kind >= 75)
+        spoil_framing(dice, file);
+}
+
+/* ---- Rails. ---- */
+
+void code_rails(unsigned contacts, uint32_t input, struct file *rails)
+{
+    rails->length = 0;
+    for (unsigned i = 0; i < contacts; i++) {
+        add_byte(rails, (input >> i) & 1);
+        add_byte(rails, ~(input >> i) & 1);
+    }
+}
+
+void random_rails(struct dice *dice, unsigned contacts, struct file *rails)
+{
+    code_rails(contacts, roll(dice, 1u << (contacts % 16)), rails);
+    if (chance(dice, 50))
+        for (size_t i = 0; i < rails->length; i++)
+            rails->bytes[i] = (uint8_t)roll(dice, 2);
+}
+
+void damage_rails(struct dice *dice, struct file *rails)
+{
+    size_t at = roll(dice, (uint32_t)rails->length);
+    switch (rails->length == 0 ? 2 : roll(dice, 4)) {
+    case 0:
+        rails->bytes[at] = (uint8_t)above_one(dice);
+        break;
+    case 1:
+        erase(rails, at, 1 + (chance(dice, 50) ? 0 : roll(dice, (uint32_t)(rails->length - at))));
+        break;
+    case 2:
+        add_byte(rails, roll(dice, 2));
+        break;
+    default:
+        add_byte(rails, 1);
+        add_byte(rails, 0);
+        break;
+    }
+}
+
+/* ---- Holds. ---- */
+
+void add_hold(struct file *holds, unsigned line, unsigned value)
+{
+    add_two(holds, line);
+    add_byte(holds, value);
+}
+
+void random_holds(struct dice *dice, unsigned lines, unsigned way, struct file *holds)
+{
+    static const unsigned densities[] = {0, 1, 5, 20, 50, 90, 100};
+    unsigned density = densities[roll(dice, sizeof densities / sizeof *densities)];
+    unsigned sure = chance(dice, 70) ? 2 + roll(dice, lines - 2) : 0;
+    holds->length = 0;
+    for (unsigned line = 2; line < lines; line++)
+        if ((line == sure && density != 0) || chance(dice, density))
+            add_hold(holds, line, way < 2 ? way : roll(dice, 2));
+}
+
+void one_hold(struct dice *dice, unsigned lines, struct file *holds)
+{
+    holds->length = 0;
+    add_hold(holds, 2 + roll(dice, lines - 2), roll(dice, 2));
+}
+
+/* Makes the line of one hold that of the one before it, or changes places with it. */
+static void spoil_rise(struct dice *dice, struct file *holds)
+{
+    if (holds->length < 6)
+        return;
+    uint8_t *at = holds->bytes + 3 * (1 + roll(dice, (uint32_t)holds->length / 3 - 1));
+    if (chance(dice, 50))
+        memcpy(at, at - 3, 2);
+    else
+        swap_bytes(at, at - 3, 3);
+}
+
+void damage_holds(struct dice *dice, unsigned lines, struct file *holds)
+{
+    switch (roll(dice, 6)) {
+    case 0:
+        insert(dice, holds, holds->length, 1 + roll(dice, 2));
+        break;
+    case 1:
+        insert(dice, holds, 0, 3);
+        set_two_bytes(holds->bytes, roll(dice, 2));
+        break;
+    case 2:
+        add_hold(holds, lines + (chance(dice, 60) ? 0 : roll(dice, 50000)), roll(dice, 2));
+        break;
+    case 3:
+        if (holds->length > 0)
+            holds->bytes[3 * roll(dice, (uint32_t)holds->length / 3) + 2] = (uint8_t)above_one(dice);
+        break;
+    case 4:
+        spoil_rise(dice, holds);
+        break;
+    default:
+        holds->length -= holds->length == 0 ? 0 : 1 + roll(dice, 2);
+        break;
+    }
+}
+
+void not_one_hold(struct dice *dice, unsigned lines, struct file *holds)
+{
+    holds->length = 0;
+    if (lines > 3 && chance(dice, 60)) {
+        unsigned line = 2 + roll(dice, lines - 3);
+        add_hold(holds, line, roll(dice, 2));
+        add_hold(holds, line + 1 + roll(dice, lines - line - 1), roll(dice, 2));
+    }
+}

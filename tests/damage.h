@@ -1,0 +1,46 @@
+/* Byte strings for the services: good ones, and ones damaged so that a certain question gets a no. */
+#ifndef DAMAGE_H
+#define DAMAGE_H
+
+#include "tables.h"
+
+enum { FILE_ROOM = 80000, MOST_GATES = 10560 };
+
+struct file {
+    size_t length;
+    uint8_t bytes[FILE_ROOM];
+};
+
+/* A table damaged at one to three of the questions 1 to 8. */
+void damaged_table(struct dice *dice, const struct diagram *good, struct file *file);
+
+/* Sets up to three bytes anew. */
+void flip_bytes(struct dice *dice, struct file *file);
+
+void random_bytes(struct dice *dice, struct file *file);
+void random_fields(struct dice *dice, struct file *file);
+
+/* A netlist that gets a yes to questions 11 and 12, with up to 10,560 gates. */
+void random_netlist(struct dice *dice, struct file *file);
+void damage_netlist(struct dice *dice, struct file *file);
+
+/* The counts of a netlist that gets a yes to question 11; of others some numbers. */
+unsigned contacts_of(const struct file *netlist);
+unsigned lines_of(const struct file *netlist);
+unsigned outputs_of(const struct file *netlist);
+
+void code_rails(unsigned contacts, uint32_t input, struct file *rails);
+void random_rails(struct dice *dice, unsigned contacts, struct file *rails);
+void damage_rails(struct dice *dice, struct file *rails);
+
+/* Holds on lines 2 to lines-1, from none to all; ways 0 and 1 hold all at that value, 2 mixes. */
+void random_holds(struct dice *dice, unsigned lines, unsigned way, struct file *holds);
+void one_hold(struct dice *dice, unsigned lines, struct file *holds);
+void damage_holds(struct dice *dice, unsigned lines, struct file *holds);
+
+/* No hold, or two good ones. */
+void not_one_hold(struct dice *dice, unsigned lines, struct file *holds);
+
+void add_hold(struct file *holds, unsigned line, unsigned value);
+
+#endif

@@ -1,0 +1,258 @@
+#include "demands.h"
+
+#include <inttypes.h>
+#include <stdarg.h>
+#include <stdio.h>
+#include <string.h>
+
+#include "../include/pilgodur.h"
+#include "damage.h"
+
+enum { SMALL_BOARD = 60, SMALL_WORK = 100000, SOME_INPUTS = 16, HOLD_SETS = 12, SEEN = 1 << 17 };
+
+struct board {
+    const struct diagram *diagram;
+    uint8_t table[TABLE_MAX];
+    size_t table_length;
+    pilgodur_checked checked;
+    unsigned lines;
+    size_t length;
+    struct demands *demands;
+};
+
+static struct file netlist;
+static struct file rails;
+static struct file holds;
+static uint8_t lines[PILGODUR_LINES_MAX];
+static uint8_t pairs[PILGODUR_PAIRS_MAX];
+static uint8_t probed_bytes[PILGODUR_FILE_MAX + PILGODUR_LINES_MAX];
+
+__attribute__((format(printf, 2, 3)))
+static bool fail(const struct board *board, const char *what, ...)
+{
+    va_list args;
+    board->demands->failures++;
+    fputs("demand not met: ", stdout);
+    va_start(args, what);
+    vprintf(what, args);
+    va_end(args);
+    fputs("\n  table hex:", stdout);
+    for (size_t i = 0; i < board->table_length; i++)
+        printf("%02x", board->table[i]);
+    fputs("\n", stdout);
+    return false;
+}
+
+static unsigned two_bytes(const uint8_t *at)
+{
+    return 256u * at[0] + at[1];
+}
+
+/* ---- The netlist: counts, depth and formulas. ---- */
+
+/* The least k with number <= 2^k. */
+static unsigned log2_up(unsigned number)
+{
+    unsigned k = 0;
+    while (1u << k < number)
+        k++;
+    return k;
+}
+
+static unsigned depth_of_netlist(const struct board *board)
+{
+    static unsigned depth[PILGODUR_LINES_MAX];
+    unsigned first = 2 + 2 * board->diagram->contacts;
+    unsigned largest = 0;
+    memset(depth, 0, sizeof depth);
+    for (unsigned line = first; line < board->lines; line++) {
+        const uint8_t *gate = netlist.bytes + 7 + 5 * (line - first);
+        unsigned left = depth[two_bytes(gate + 1)];
+        unsigned right = depth[two_bytes(gate + 3)];
+        depth[line] = 1 + (left > right ? left : right);
+        if (depth[line] > largest)
+            largest = depth[line];
+    }
+    return largest;
+}
+
+static bool check_formulas(const struct board *board)
+{
+    const struct diagram *d = board->diagram;
+    unsigned w = 2;
+    for (unsigned level = 0; level < d->contacts; level++)
+        if (d->width[level] > w)
+            w = d->width[level];
+    unsigned most_gates = (d->contacts - 1) * w * w * (2 * w - 1);
+    unsigned most_depth = log2_up(d->contacts) * (1 + log2_up(w));
+    if (board->checked.gates > most_gates || board->checked.gates > MOST_GATES)
+        return fail(board, "%" PRIu32 " gates, the formula allows %u", board->checked.gates, most_gates);
+    if (board->checked.depth > most_depth)
+        return fail(board, "depth %" PRIu32 ", the formula allows %u", board->checked.depth, most_depth);
+    if (depth_of_netlist(board) != board->checked.depth)
+        return fail(board, "depth %" PRIu32 " reported, %u in the netlist", board->checked.depth, depth_of_netlist(board));
+    return true;
+}
+
+static bool build_board(struct board *board)
+{
+    const struct diagram *d = board->diagram;
+    board->table_length = table_of(d, board->table);
+    board->checked = pilgodur_check(board->table, board->table_length);
+    pilgodur_built built = pilgodur_build(board->table, board->table_length, netlist.bytes, FILE_ROOM);
+    if (board->checked.refusal != 0 || built.refusal != 0)
+        return fail(board, "an accepted table is refused with %" PRIu32 " and %" PRIu32, board->checked.refusal, built.refusal);
+    if (board->checked.contacts != d->contacts || board->checked.outputs != d->outputs)
+        return fail(board, "check returns other counts of contacts or outputs");
+    netlist.length = built.length;
+    board->length = built.length;
+    board->lines = lines_of(&netlist);
+    if (built.length != 10 + 5 * board->checked.gates + 4 * d->outputs ||
+        board->lines != 2 + 2 * d->contacts + board->checked.gates || contacts_of(&netlist) != d->contacts)
+        return fail(board, "the netlist's counts are not those that check returns");
+    return check_formulas(board);
+}
+
+/* ---- Different tables, different netlists. ---- */
+
+static uint64_t hash(const uint8_t *bytes, size_t length)
+{
+    uint64_t h = 0xcbf29ce484222325u;
+    for (size_t i = 0; i < length; i++)
+        h = (h ^ bytes[i]) * 0x100000001b3u;
+    return h | 1;
+}
+
+static bool check_new_netlist(const struct board *board)
+{
+    static struct { uint64_t netlist, table; } seen[SEEN];
+    uint64_t of_netlist = hash(netlist.bytes, netlist.length);
+    uint64_t of_table = hash(board->table, board->table_length);
+    size_t at = of_netlist >> 20 & (SEEN - 1);
+    if (seen[at].netlist == of_netlist && seen[at].table != of_table)
+        return fail(board, "another table seen before has the same netlist");
+    seen[at].netlist = of_netlist;
+    seen[at].table = of_table;
+    return true;
+}
+
+/* ---- Runs. ---- */
+
+static bool run_board(const struct board *board, uint32_t input)
+{
+    code_rails(board->diagram->contacts, input, &rails);
+    uint32_t refusal = pilgodur_run(netlist.bytes, netlist.length, rails.bytes, rails.length, holds.bytes, holds.length,
+                                    lines, board->lines, pairs, 2 * board->diagram->outputs);
+    board->demands->inputs++;
+    if (refusal != 0)
+        return fail(board, "a run is refused with %" PRIu32, refusal);
+    return true;
+}
+
+static bool right_code(const struct board *board, unsigned output, uint32_t input)
+{
+    unsigned value = value_at(board->diagram, output, input);
+    return pairs[2 * output] == value && pairs[2 * output + 1] == 1 - value;
+}
+
+static bool check_permits(const struct board *board, uint32_t input)
+{
+    holds.length = 0;
+    if (!run_board(board, input))
+        return false;
+    for (unsigned j = 0; j < board->diagram->outputs; j++)
+        if (!right_code(board, j, input))
+            return fail(board, "input %" PRIu32 ": output %u shows %u%u", input, j, pairs[2 * j], pairs[2 * j + 1]);
+    pilgodur_reading reading = pilgodur_read_off(board->table, board->table_length, input);
+    if (reading.refusal != 0 || reading.word != word_at(board->diagram, input))
+        return fail(board, "input %" PRIu32 ": read-off gives %" PRIu32, input, reading.word);
+    return true;
+}
+
+static bool check_all_permits(struct dice *dice, const struct board *board)
+{
+    uint32_t inputs = 1u << board->diagram->contacts;
+    bool all = inputs * board->lines <= SMALL_WORK || chance(dice, 12);
+    for (uint32_t i = 0; i < (all ? inputs : SOME_INPUTS); i++)
+        if (!check_permits(board, all ? i : roll(dice, inputs)))
+            return false;
+    return true;
+}
+
+/* With lines held all at `way`, each pair is right or shows `way` twice. */
+static bool check_one_way(const struct board *board, uint32_t input, unsigned way)
+{
+    if (!run_board(board, input))
+        return false;
+    for (unsigned j = 0; j < board->diagram->outputs; j++)
+        if (!right_code(board, j, input) && (pairs[2 * j] != way || pairs[2 * j + 1] != way))
+            return fail(board, "input %" PRIu32 ", %zu lines held at %u: output %u shows %u%u", input, holds.length / 3, way,
+                        j, pairs[2 * j], pairs[2 * j + 1]);
+    return true;
+}
+
+static bool check_hold_sets(struct dice *dice, const struct board *board)
+{
+    uint32_t inputs = 1u << board->diagram->contacts;
+    for (unsigned i = 0; i < HOLD_SETS; i++) {
+        random_holds(dice, board->lines, i % 2, &holds);
+        board->demands->hold_sets++;
+        for (uint32_t k = 0; k < SOME_INPUTS && k < inputs; k++)
+            if (!check_one_way(board, inputs <= SOME_INPUTS ? k : roll(dice, inputs), i % 2))
+                return false;
+    }
+    return true;
+}
+
+/* ---- Probe against runs at every input from 0 up. ---- */
+
+static bool check_found(const struct board *board, const pilgodur_probed *probed, uint32_t input, unsigned output, unsigned way)
+{
+    if (probed->refusal != 0 || probed->input != input || probed->output != output || probed->way != way)
+        return fail(board, "probe returns %" PRIu32 ", %" PRIu32 ", %" PRIu32 ", %" PRIu32 "; runs give input %" PRIu32
+                    ", output %u, way %u", probed->refusal, probed->input, probed->output, probed->way, input, output, way);
+    if (memcmp(probed_bytes, netlist.bytes, board->length) != 0 ||
+        memcmp(probed_bytes + board->length, lines, board->lines) != 0)
+        return fail(board, "probe's buffer is not the netlist with the line values of the run");
+    return true;
+}
+
+static bool check_probe(const struct board *board, unsigned line, unsigned way)
+{
+    holds.length = 0;
+    add_hold(&holds, line, way);
+    pilgodur_probed probed = pilgodur_probe(board->table, board->table_length, holds.bytes, 3, probed_bytes,
+                                            board->length + board->lines);
+    board->demands->probes++;
+    for (uint32_t input = 0; input < 1u << board->diagram->contacts; input++) {
+        if (!run_board(board, input))
+            return false;
+        for (unsigned j = 0; j < board->diagram->outputs; j++) {
+            if (pairs[2 * j] == pairs[2 * j + 1])
+                return pairs[2 * j] == way ? check_found(board, &probed, input, j, way)
+                                           : fail(board, "line %u held at %u shows the other value twice", line, way);
+            if (!right_code(board, j, input))
+                return fail(board, "line %u held at %u: a wrong code at input %" PRIu32, line, way, input);
+        }
+    }
+    return fail(board, "line %u held at %u is unseen at every input", line, way);
+}
+
+static bool check_probes(const struct board *board)
+{
+    if (board->lines > SMALL_BOARD)
+        return true;
+    for (unsigned line = 2; line < board->lines; line++)
+        for (unsigned way = 0; way < 2; way++)
+            if (!check_probe(board, line, way))
+                return false;
+    return true;
+}
+
+void check_board(struct dice *dice, const struct diagram *diagram, struct demands *demands)
+{
+    struct board board = {.diagram = diagram, .demands = demands};
+    demands->boards++;
+    if (build_board(&board) && check_new_netlist(&board) && check_all_permits(dice, &board) && check_hold_sets(dice, &board))
+        check_probes(&board);
+}

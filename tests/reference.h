@@ -1,0 +1,16 @@
+/* The independent implementation of the five services, written from the rules alone. Same arguments and answers as pilgodur.h. */
+#ifndef REFERENCE_H
+#define REFERENCE_H
+
+#include "../include/pilgodur.h"
+
+pilgodur_checked ref_check(const uint8_t *table, size_t table_len);
+pilgodur_built ref_build(const uint8_t *table, size_t table_len, uint8_t *file, size_t file_len);
+pilgodur_reading ref_read_off(const uint8_t *table, size_t table_len, uint32_t input);
+uint32_t ref_run(const uint8_t *netlist, size_t netlist_len, const uint8_t *rails, size_t rails_len,
+                 const uint8_t *holds, size_t holds_len, uint8_t *lines, size_t lines_len,
+                 uint8_t *pairs, size_t pairs_len);
+pilgodur_probed ref_probe(const uint8_t *table, size_t table_len, const uint8_t *hold, size_t hold_len,
+                          uint8_t *buffer, size_t buffer_len);
+
+#endif
