@@ -19,4 +19,3 @@ pub mod Tables
 pub mod Encode
 pub mod SameFile
 pub mod Promises
-pub mod Starred

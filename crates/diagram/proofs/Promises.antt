@@ -4,7 +4,7 @@ use native.Mathlib.Omega.{arith}
 use mathlib.Core.Path.{_≡_, sym, ap, _∙_}
 use mathlib.Core.List.{List}
 use Rattle.diagram.specs.Diagram.{root, inputOf, path, wordAt}
-use Rattle.diagram.specs.Promises.{AcceptedTable, NodesReached, NodesApart, SameWords, Encoded}
+use Rattle.diagram.specs.Promises.{Accepted, NodesReached, NodesApart, SameWords, Encoded}
 use Rattle.diagram.specs.Table.{diagramIn}
 use Rattle.diagram.proofs.Accepted.{accepted}
 use Rattle.diagram.proofs.Apart.{apart}
@@ -19,14 +19,14 @@ use Rattle.diagram.proofs.Words.{same-words}
 pub nodes-reached : NodesReached
 nodes-reached file t l u h i =
     let d = diagramIn file in
-    let (j, hj, x, leads) = reached d (accepted file (t .yes) .counted) l h u i in
+    let (j, hj, x, leads) = reached d (accepted file (t .1) .counted) l h u i in
     let (a, ha, same) = inputNumber x (d .contacts) in
     (j, hj, a, ha, path-same d (inputOf a) x l 0 (root d j) (λ k _ g. same k (omega arith)) ∙ leads)
 
 pub nodes-apart : NodesApart
 nodes-apart file t l u v h hu hv ne =
     let d = diagramIn file in
-    let s = accepted file (t .yes) in
+    let s = accepted file (t .1) in
     let left = d .contacts - l in
     let (x, told) = apart d (s .ranged) (s .differing) left l u v (omega arith) hu hv ne in
     let (a, ha, same) = inputNumber x (d .contacts) in
@@ -35,11 +35,11 @@ nodes-apart file t l u v h hu hv ne =
     (a, ha, λ p. told (sym (along u) ∙ p ∙ along v))
 
 pub encoding : Encoded
-encoding file t = bytes-are file (accepted file (t .yes)) (t .bytes)
+encoding file t = bytes-are file (accepted file (t .1)) (t .0)
 
-reduced : (file : List ℕ) → AcceptedTable file → Reduced (diagramIn file)
+reduced : (file : List ℕ) → Accepted file → Reduced (diagramIn file)
 reduced file t =
-    let s = accepted file (t .yes) in
+    let s = accepted file (t .1) in
     record { ranged = s .ranged; differing = s .differing; counted = s .counted }
 
 pub same-bytes : SameWords

@@ -4,4 +4,3 @@ pub mod Questions
 pub mod Table
 pub mod Encode
 pub mod Promises
-pub mod Starred

@@ -20,8 +20,9 @@ use Rattle.netlist.specs.declared.Hold.{Hold}
 use Rattle.netlist.specs.declared.Pair.{Pair}
 use Rattle.netlist.specs.Netlist.{lineCount}
 use Rattle.synthesis.specs.Board.{boardOf}
-use Rattle.synthesis.specs.Promises.{Accepted}
-use Rattle.synthesis.specs.Service.{tableDiagram, tableBoard}
+use Rattle.diagram.specs.Promises.{Accepted}
+use Rattle.diagram.specs.Table.{diagramIn}
+use Rattle.synthesis.specs.Service.{tableBoard}
 use Rattle.synthesis.proofs.Codes.{code-same}
 use Rattle.synthesis.proofs.Held.{shown}
 use Rattle.synthesis.proofs.Pairs.{pair, pairs-length, pairs-at}
@@ -46,7 +47,7 @@ module _ (d : Diagram) (vs : List ℕ) (j : ℕ) (h : j < d .outputs) where
 -- One line held at one value is a hold list of one hold.
 module _ (table : List ℕ) (yes! : Accepted table) (y b : ℕ) (low : 2 ≤ y) (high : y < lineCount (tableBoard table)) (bound : b ≤ 1) where
   abbrev d : Diagram
-  d = tableDiagram table
+  d = diagramIn table
 
   abbrev hold : Hold
   hold = record { line = y; value = b }

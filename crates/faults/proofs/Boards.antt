@@ -16,8 +16,9 @@ use Rattle.netlist.specs.Netlist.{gateLine, lineCount, gateBytes, pairBytes, ho
 use Rattle.netlist.specs.Service.{areGates, arePairs, isSound, netlistOf, areHolds}
 use Rattle.netlist.proofs.Files.{file-fields, file-length, length-gate-bytes, length-pair-bytes, gates-back, pairs-back}
 use Rattle.synthesis.specs.Board.{boardOf}
-use Rattle.synthesis.specs.Promises.{Accepted}
-use Rattle.synthesis.specs.Service.{tableDiagram, tableBoard}
+use Rattle.diagram.specs.Promises.{Accepted}
+use Rattle.diagram.specs.Table.{diagramIn}
+use Rattle.synthesis.specs.Service.{tableBoard}
 use Rattle.synthesis.proofs.Files.{taken-back}
 use Rattle.synthesis.proofs.Pairs.{pairs-length}
 use Rattle.synthesis.proofs.Promises.{within-formulas, built-files-pass}
@@ -68,7 +69,7 @@ module _ (table : List ℕ) where
         let first = held-line (lineCount net) hold o in
         let gate-count = length-gate-bytes (net .gates) in
         let pair-count = length-pair-bytes (net .pairs) in
-        let outputs = pairs-length (tableDiagram table) in
+        let outputs = pairs-length (diagramIn table) in
         let size = file-length net in
         let few = within-formulas table yes! .1 in
         let count : length gatesIn / 5 ≡ length (net .gates) = omega arith in

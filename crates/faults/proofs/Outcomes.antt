@@ -15,7 +15,7 @@ use Rattle.netlist.specs.Netlist.{Netlist, gateLine, lineCount, holdAt}
 use Rattle.netlist.specs.Service.{holdsNumber, roomOf, roomNumber, over}
 use Rattle.netlist.proofs.Answers.{enough}
 use Rattle.synthesis.specs.Board.{boardOf}
-use Rattle.synthesis.specs.Promises.{Accepted}
+use Rattle.diagram.specs.Promises.{Accepted}
 use Rattle.synthesis.specs.Service.{tableBoard}
 use Rattle.synthesis.proofs.Files.{file-of}
 use Rattle.synthesis.proofs.Services.{Unrefused, size-is}

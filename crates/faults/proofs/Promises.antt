@@ -11,8 +11,9 @@ use Rattle.netlist.specs.Netlist.{holdsOf, lineCount, holdAt}
 use Rattle.netlist.specs.Service.{holdsNumber, runOf}
 use Rattle.netlist.proofs.Files.{reads-back}
 use Rattle.synthesis.specs.Board.{boardOf}
-use Rattle.synthesis.specs.Promises.{Accepted}
-use Rattle.synthesis.specs.Service.{tableDiagram, tableBoard}
+use Rattle.diagram.specs.Promises.{Accepted}
+use Rattle.diagram.specs.Table.{diagramIn}
+use Rattle.synthesis.specs.Service.{tableBoard}
 use Rattle.synthesis.proofs.Held.{shown}
 use Rattle.faults.specs.Betrayal.{stuckAt}
 use Rattle.faults.specs.Promises.{NoWrongCode, NoUnseenLine, Smallest, ProbeWrites, RunWrites}
@@ -25,7 +26,7 @@ use Rattle.faults.proofs.OneWay.{no-wrong-code}
 pub no-wrong-lines : NoWrongCode
 unfolding boardOf
 no-wrong-lines table (bytes, all) b bound holds (ordered, way) x j h =
-    let d = tableDiagram table in
+    let d = diagramIn table in
     let a = accepted table all in
     let some = a .sized .contacts .0 in
     let run = one-way-run d some x b bound (holdsOf holds) (all-holds (λ v. v ≡ b) holds way) in

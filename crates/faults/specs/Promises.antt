@@ -11,8 +11,9 @@ use Rattle.netlist.specs.Netlist.{Netlist, holdAt, holdsOf, lineCount, fileOf}
 use Rattle.netlist.specs.Run.{valuesOf, shownBy}
 use Rattle.netlist.specs.Service.{areOrdered, over, runRefusal, runOf}
 use Rattle.synthesis.specs.Code.{codeRails}
-use Rattle.synthesis.specs.Promises.{Accepted}
-use Rattle.synthesis.specs.Service.{tableDiagram, tableBoard}
+use Rattle.diagram.specs.Promises.{Accepted}
+use Rattle.diagram.specs.Table.{diagramIn}
+use Rattle.synthesis.specs.Service.{tableBoard}
 use Rattle.faults.specs.Betrayal.{stuckAt}
 use Rattle.faults.specs.Service.{wayOf, probeRefusal, probingOf}
 
@@ -23,7 +24,7 @@ Shows net values j a b = (getD (shownBy net values) (2 * j) 0 ≡ a) × (getD (s
 -- The right code of output j at a code input: 10 if its value is 1, else 01.
 abbrev pub ShowsRight : List ℕ → Input → List ℕ → ℕ → Type 0
 ShowsRight table x values j =
-    let value = valueAt (tableDiagram table) x j in
+    let value = valueAt (diagramIn table) x j in
     Shows (tableBoard table) values j value (1 - value)
 
 -- A hold list under question 14, all of whose values are b.
@@ -36,7 +37,7 @@ OneWay net holds b =
 abbrev pub NoWrongCode : Type 0
 NoWrongCode =
     (table : List ℕ) → Accepted table → (b : ℕ) → b ≤ 1 → (holds : List ℕ) → OneWay (tableBoard table) holds b →
-    (x : Input) (j : ℕ) → j < tableDiagram table .outputs →
+    (x : Input) (j : ℕ) → j < diagramIn table .outputs →
     let net = tableBoard table in
     let values = valuesOf net (codeRails (net .contacts) x) (holdsOf holds) in
     ShowsRight table x values j ⊎ Shows net values j b b
@@ -46,7 +47,7 @@ NoWrongCode =
 abbrev pub NoUnseenLine : Type 0
 NoUnseenLine =
     (table : List ℕ) → Accepted table → (line b : ℕ) → 2 ≤ line → line < lineCount (tableBoard table) → b ≤ 1 →
-    (a : ℕ) × (a < 2 ^ tableDiagram table .contacts) × (j : ℕ) × (j < tableDiagram table .outputs)
+    (a : ℕ) × (a < 2 ^ diagramIn table .contacts) × (j : ℕ) × (j < diagramIn table .outputs)
     × Shows (tableBoard table) (stuckAt (tableBoard table) (record { line = line; value = b }) a) j b b
 
 -- What a probe returns, if it is not refused: the smallest such input, the lowest output that shows it there, and the way it shows,
@@ -58,10 +59,10 @@ Smallest =
     let net = tableBoard table in
     let held = holdAt hold 0 in
     let found = probingOf table hold buffer .answer in
-    (found .input < 2 ^ tableDiagram table .contacts)
-    × (found .output < tableDiagram table .outputs)
+    (found .input < 2 ^ diagramIn table .contacts)
+    × (found .output < diagramIn table .outputs)
     × Shows net (stuckAt net held (found .input)) (found .output) (held .value) (held .value)
-    × ((a j : ℕ) → a < found .input → j < tableDiagram table .outputs → ShowsRight table (inputOf a) (stuckAt net held a) j)
+    × ((a j : ℕ) → a < found .input → j < diagramIn table .outputs → ShowsRight table (inputOf a) (stuckAt net held a) j)
     × ((j : ℕ) → j < found .output → ShowsRight table (inputOf (found .input)) (stuckAt net held (found .input)) j)
     × (found .way ≡ wayOf (held .value))
 

@@ -17,7 +17,7 @@ use Rattle.synthesis.specs.Service.{tableBoard, checkedOr, checkedOf, buildRefu
 use Rattle.synthesis.proofs.Promises.{within-formulas, built-files-pass, right-code, different-netlists}
 use Rattle.faults.specs.declared.service.Way.the-variants.{BothLow}
 use Rattle.faults.specs.Service.{probeRefusal, probingOr, probingOf}
-use Rattle.faults.proofs.Promises.{no-wrong-lines, run-writes, no-unseen-line, smallest}
+use Rattle.faults.proofs.Promises.{no-wrong-lines, run-writes, no-unseen-line, smallest, probe-writes}
 use Rattle.pilgodur.specs.Demands.{Refusals, Demands}
 
 check-refused : (r : ℕ) (net : Netlist) (k : ℕ) → checkedOr r net .refusal ≡ suc k →
@@ -81,5 +81,6 @@ demands =
             runWrites = run-writes;
             noUnseenLine = no-unseen-line;
             smallest = smallest;
+            probeWrites = probe-writes;
           };
     }

@@ -11,7 +11,7 @@ use Rattle.netlist.specs.Service.{runOf}
 use Rattle.synthesis.specs.Service.{checkedOf, buildingOf}
 use Rattle.synthesis.specs.Promises.{WithinFormulas, BuiltFilesPass, RightCode, DifferentNetlists}
 use Rattle.faults.specs.declared.service.Way.the-variants.{BothLow}
-use Rattle.faults.specs.Promises.{NoWrongCode, RunWrites, NoUnseenLine, Smallest}
+use Rattle.faults.specs.Promises.{NoWrongCode, RunWrites, NoUnseenLine, Smallest, ProbeWrites}
 use Rattle.faults.specs.Service.{probingOf}
 
 -- Demand 1. The answer to every call is the full result or one numbered refusal; with a refusal every other result is zero, and it
@@ -44,6 +44,7 @@ pub record StuckLines : Type 0 where
   pub runWrites : RunWrites
   pub noUnseenLine : NoUnseenLine
   pub smallest : Smallest
+  pub probeWrites : ProbeWrites
 
 pub record Demands : Type 0 where
   pub first : Refusals

@@ -13,8 +13,10 @@ use Rattle.netlist.proofs.Files.{reads-back, file-determines, file-accepted}
 use Rattle.netlist.proofs.Tests.{Bounds, Wired, Shown}
 use Rattle.netlist.specs.Run.{held}
 use Rattle.synthesis.specs.Board.{boardOf}
-use Rattle.synthesis.specs.Promises.{Accepted, WithinFormulas, BuiltFilesPass, RightCode, DifferentNetlists}
-use Rattle.synthesis.specs.Service.{tableDiagram, tableBoard}
+use Rattle.diagram.specs.Promises.{Accepted}
+use Rattle.synthesis.specs.Promises.{WithinFormulas, BuiltFilesPass, RightCode, DifferentNetlists}
+use Rattle.diagram.specs.Table.{diagramIn}
+use Rattle.synthesis.specs.Service.{tableBoard}
 use Rattle.synthesis.proofs.Bounds.{gates-within, gates-most, sized-narrow}
 use Rattle.synthesis.proofs.Depths.{depth-bound}
 use Rattle.synthesis.proofs.FileBytes.{file-bytes}
@@ -27,7 +29,7 @@ use Rattle.synthesis.proofs.Wired.{gates-on, pairs-wired}
 
 pub within-formulas : WithinFormulas
 within-formulas table (bytes, all) =
-    let d = tableDiagram table in
+    let d = diagramIn table in
     let a = accepted table all in
     let some = a .sized .contacts .0 in
     (gates-within d some, gates-most d some (a .sized .contacts .1) (sized-narrow d (a .sized)), depth-bound d some)
@@ -48,7 +50,7 @@ run-model d some x =
 pub right-code : RightCode
 unfolding boardOf
 right-code table (bytes, all) x j h =
-    let d = tableDiagram table in
+    let d = diagramIn table in
     let a = accepted table all in
     let some = a .sized .contacts .0 in
     let right = model-right d x (shown d some x []) (run-model d some x) (a .ranged) some j h in
@@ -57,7 +59,7 @@ right-code table (bytes, all) x j h =
 pub built-files-pass : BuiltFilesPass
 unfolding boardOf
 built-files-pass table (bytes, all) =
-    let d = tableDiagram table in
+    let d = diagramIn table in
     let net = tableBoard table in
     let a = accepted table all in
     let s = a .sized in
@@ -76,15 +78,15 @@ built-files-pass table (bytes, all) =
     (file-bytes net bounds wired shown, file-accepted net bounds wired shown, reads-back net)
 
 -- The diagram of an accepted table passes questions 5 to 7.
-reduced : (table : List ℕ) → Accepted table → Reduced (tableDiagram table)
+reduced : (table : List ℕ) → Accepted table → Reduced (diagramIn table)
 reduced table (bytes, all) =
     let a = accepted table all in
     record { ranged = a .ranged; differing = a .differing; counted = a .counted }
 
 pub different-netlists : DifferentNetlists
 different-netlists a b (abytes, ayes) (bbytes, byes) e =
-    let d = tableDiagram a in
-    let f = tableDiagram b in
+    let d = diagramIn a in
+    let f = diagramIn b in
     let one = file-determines (tableBoard a) (tableBoard b) e in
     let some = accepted a ayes .sized .contacts .0 in
     let same = injective d f one (reduced a (abytes, ayes)) (reduced b (bbytes, byes)) some

@@ -18,7 +18,8 @@ use Rattle.netlist.specs.Netlist.{Netlist, gateAt, listed, gateBytes, pairBytes
 use Rattle.netlist.specs.Service.{roomOf, over}
 use Rattle.netlist.proofs.Files.{file-length, length-gate-bytes, length-pair-bytes}
 use Rattle.synthesis.specs.Board.{boardOf, depthsOf, depthOf}
-use Rattle.synthesis.specs.Service.{tableDiagram, tableBoard, checkedOr, checkedOf, fileWith, buildRefusal, buildingOf}
+use Rattle.diagram.specs.Table.{diagramIn}
+use Rattle.synthesis.specs.Service.{tableBoard, checkedOr, checkedOf, fileWith, buildRefusal, buildingOf}
 use Rattle.synthesis.proofs.Bounds.{sized-narrow, gates-most}
 use Rattle.synthesis.proofs.Depths.{depth-most}
 use Rattle.synthesis.proofs.Files.{taken-back, gates-read, file-of}
@@ -27,7 +28,7 @@ use Rattle.synthesis.proofs.Pairs.{pairs-length}
 -- The diagram read from a table that is not refused.
 pub record Unrefused (table : List ℕ) (d : Diagram) : Type 0 where
   pub yes : tableRefusal table ≡ 0
-  pub is : d ≡ tableDiagram table
+  pub is : d ≡ diagramIn table
   pub sized : Sized d
   pub ranged : inRange d ≡ true
   pub few : length (boardOf d .gates) ≤ 10560
@@ -66,7 +67,7 @@ module _ (table : List ℕ) {t : Table} (e : t ≡ tableOf table) where
         is = is;
         sized = rw is s;
         ranged = rw is (a .ranged);
-        few = rw is (gates-most (tableDiagram table) (s .contacts .0) (s .contacts .1) (sized-narrow (tableDiagram table) s));
+        few = rw is (gates-most (diagramIn table) (s .contacts .0) (s .contacts .1) (sized-narrow (diagramIn table) s));
       }
 
   pub check-refused : (t .refusal ≡ 0 → ⊥) →

@@ -5,26 +5,23 @@ use mathlib.Core.List.{List, []}
 use lib.ListN.{length, getD}
 use Rattle.fields.specs.Fields.{Bytes, fieldsOf}
 use Rattle.diagram.specs.Diagram.{Input, valueAt}
-use Rattle.diagram.specs.Table.{tableRefusal}
+use Rattle.diagram.specs.Promises.{Accepted}
+use Rattle.diagram.specs.Table.{diagramIn}
 use Rattle.netlist.specs.Netlist.{fileOf}
 use Rattle.netlist.specs.Run.{valuesOf, shownBy}
 use Rattle.netlist.specs.Service.{netlistOf, netlistRefusal}
 use Rattle.synthesis.specs.Board.{depthOf}
 use Rattle.synthesis.specs.Code.{codeRails}
 use Rattle.synthesis.specs.Formulas.{gatesMost, depthMost}
-use Rattle.synthesis.specs.Service.{tableDiagram, tableBoard}
-
--- A table is accepted if the table's questions all get a yes.
-abbrev pub Accepted : List ℕ → Type 0
-Accepted table = Bytes table × (tableRefusal table ≡ 0)
+use Rattle.synthesis.specs.Service.{tableBoard}
 
 -- The netlist of an accepted table is within the formulas for gates and depth, and never above 10,560 gates.
 abbrev pub WithinFormulas : Type 0
 WithinFormulas =
     (table : List ℕ) → Accepted table →
-    (length (tableBoard table .gates) ≤ gatesMost (tableDiagram table))
+    (length (tableBoard table .gates) ≤ gatesMost (diagramIn table))
     × (length (tableBoard table .gates) ≤ 10560)
-    × (depthOf (tableBoard table) ≤ depthMost (tableDiagram table))
+    × (depthOf (tableBoard table) ≤ depthMost (diagramIn table))
 
 -- The file that build writes passes questions 11 and 12 and holds the table's netlist.
 abbrev pub BuiltFilesPass : Type 0
@@ -36,10 +33,10 @@ BuiltFilesPass =
 -- At every code input each permit pair shows the table's value and its opposite.
 abbrev pub RightCode : Type 0
 RightCode =
-    (table : List ℕ) → Accepted table → (x : Input) (j : ℕ) → j < tableDiagram table .outputs →
+    (table : List ℕ) → Accepted table → (x : Input) (j : ℕ) → j < diagramIn table .outputs →
     let net = tableBoard table in
     let pairs = shownBy net (valuesOf net (codeRails (net .contacts) x) []) in
-    let value = valueAt (tableDiagram table) x j in
+    let value = valueAt (diagramIn table) x j in
     (getD pairs (2 * j) 0 ≡ value) × (getD pairs (2 * j + 1) 0 ≡ 1 - value)
 
 -- Two different accepted tables have different netlists.

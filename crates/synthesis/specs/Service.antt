@@ -2,21 +2,17 @@
 use Prim.Native.Nat.{ℕ, zero, suc}
 use mathlib.Core.List.{List, [], _∷_}
 use lib.ListN.{length}
-use Rattle.fields.specs.Fields.{fieldsOf, encoded}
+use Rattle.fields.specs.Fields.{encoded}
 use Rattle.fields.specs.Header.{firstNo}
-use Rattle.diagram.specs.declared.Diagram.{Diagram}
-use Rattle.diagram.specs.Table.{diagramOf, tableRefusal}
+use Rattle.diagram.specs.Table.{diagramIn, tableRefusal}
 use Rattle.netlist.specs.Netlist.{Netlist, fileOf}
 use Rattle.netlist.specs.Service.{roomOf, roomNumber, over}
 use Rattle.synthesis.specs.declared.service.Checked.{Checked}
 use Rattle.synthesis.specs.Board.{boardOf, depthOf}
 
--- The diagram of a table, and its board: the netlist of the diagram.
-abbrev pub tableDiagram : List ℕ → Diagram
-tableDiagram table = diagramOf (fieldsOf table .items)
-
+-- The board of a table: the netlist of its diagram.
 abbrev pub tableBoard : List ℕ → Netlist
-tableBoard table = boardOf (tableDiagram table)
+tableBoard table = boardOf (diagramIn table)
 
 -- Check returns contacts, outputs, gates and depth, or the table's refusal with every other result zero.
 abbrev pub checkedOr : ℕ → Netlist → Checked

@@ -9,7 +9,7 @@ use Rattle.netlist.specs.declared.drive.Holds.the-variants.{Ordered}
 use Rattle.netlist.specs.declared.drive.Room.the-variants.{Enough}
 use Rattle.netlist.specs.Netlist.{gateLine}
 use Rattle.netlist.specs.Service.{roomOf}
-use Rattle.synthesis.specs.Promises.{Accepted}
+use Rattle.diagram.specs.Promises.{Accepted}
 use Rattle.synthesis.proofs.Services.{Unrefused, unrefused}
 use Rattle.faults.specs.Service.{oneHold}
 use Rattle.faults.proofs.Boards.{gatesIn, pairsIn, taken-gates, taken-pairs}
