@@ -4,3 +4,5 @@ pub mod Encoding
 pub mod Bounded
 pub mod Places
 pub mod Written
+pub mod ByHand
+pub mod Held

@@ -8,9 +8,11 @@ use lib.ListN.{length, getD, drop}
 use Rattle.fields.specs.declared.header.Contacts.the-variants.{Counted, Uncounted}
 use Rattle.fields.specs.declared.Field.{Field}
 use Rattle.fields.specs.declared.Cursor.{Cursor}
-use Rattle.fields.specs.declared.Step.the-variants.{Next}
-use Rattle.fields.specs.Fields.{Item, Fields, stepAt, valueOf, fieldsFrom, fieldsOf}
-use Rattle.fields.proofs.Steps.{from-start, items-next}
+use Rattle.fields.specs.declared.Step.{Step}
+use Rattle.fields.specs.declared.Step.the-variants.{Next, End, Cut}
+use Rattle.fields.specs.Fields.{Item, Fields, stepAt, valueOf, fieldsAfter, fieldsFrom, fieldsOf}
+use Rattle.fields.specs.Found.{foundIn}
+use Rattle.fields.proofs.Steps.{walk, from-start, items-next}
 use Rattle.fields.specs.Header.{between, valueIn, contactsIn}
 
 -- Question 2 at a step from the start of a file.
@@ -36,3 +38,12 @@ pub value-by : {fs gs : Fields} (k : ℕ) {l : List Item} (m : List Item) → gs
     valueIn m 0 ≡ valueIn (fs .items) k
 value-by {gs = gs} k m s e d =
     ap (λ (l : List Item). valueIn l 0) (sym d ∙ e) ∙ value-at (gs .items) k ∙ ap (λ (fs : Fields). valueIn (fs .items) k) s
+
+-- The value that the step at a place found is that of the first field from there on.
+first-of : (file : List ℕ) (s : Step) → foundIn file s ≡ valueIn (fieldsAfter file (fieldsFrom file) s .items) 0
+first-of file (Next f c) = refl
+first-of file End = refl
+first-of file Cut = refl
+
+pub found-at : (file : List ℕ) (at : ℕ) → foundIn file (stepAt file at) ≡ valueIn (fieldsFrom file at .items) 0
+found-at file at = first-of file (stepAt file at) ∙ sym (ap (λ (fs : Fields). valueIn (fs .items) 0) (walk file at refl))

@@ -1,4 +1,5 @@
 pub mod Fields
+pub mod Found
 pub mod Walk
 pub mod Bounded
 pub mod Header

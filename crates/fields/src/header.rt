@@ -1,5 +1,6 @@
 // The field that tables and netlists begin with, and fields by their place.
 use crate::Cursor;
+use crate::Reader;
 use crate::Step;
 use crate::value;
 ghost use mathlib.Core.Path.{_≡_};
@@ -42,10 +43,8 @@ pub fn count_contacts(file: &[u8]) -> Contacts
 pub fn nth(file: &[u8], place: usize) -> &[u8]
     ensures { λ r. ⌜ now r ≡ valueIn (fieldsOf (now (file .entry)) .items) place ⌝ }
 {
-    let Step::Next(field, _) = Cursor::new().skip(file, place).next(file) else {
-        return &file[..0];
-    };
-    value(file, field)
+    let reader = Reader::new(file).skip(place);
+    reader.value(reader.next())
 }
 
 // The byte at a place, or 0.

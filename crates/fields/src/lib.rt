@@ -1,11 +1,13 @@
 // Files as rows of fields: one tag byte, two length bytes (high byte first), the value.
 mod header;
+mod reader;
 mod write;
 
 pub use header::Contacts;
 pub use header::byte;
 pub use header::count_contacts;
 pub use header::nth;
+pub use reader::Reader;
 pub use write::put_field;
 ghost use mathlib.Core.Path.{_≡_};
 ghost use Rattle.fields.specs.Fields.{stepAt, valueOf, fieldsFrom, fieldsOf, numberOf};
