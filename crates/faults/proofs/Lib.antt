@@ -17,7 +17,10 @@ pub mod Trailing
 pub mod Least
 pub mod Found
 pub mod Lines
+pub mod Sources
+pub mod GateWords
 pub mod Agree
+pub mod Masks
 pub mod HeldLines
 pub mod OneHold
 pub mod Betrayed

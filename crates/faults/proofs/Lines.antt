@@ -29,7 +29,7 @@ module _ (k line word : ℕ) where
       go true = refl
       go false = refl
 
-  made-bit : (kind a b : ℕ) → bitOf k (gateWord kind a b) ≡ gateOf kind (bitOf k a) (bitOf k b)
+  pub made-bit : (kind a b : ℕ) → bitOf k (gateWord kind a b) ≡ gateOf kind (bitOf k a) (bitOf k b)
   made-bit kind a b = go (eqb kind 0)
     where
       go : (q : Bool) → bitOf k (cond q (bitAnd a b) (bitOr a b)) ≡ cond q (min (bitOf k a) (bitOf k b)) (max (bitOf k a) (bitOf k b))
@@ -42,7 +42,7 @@ module _ (k line word : ℕ) where
 
   -- One line more.
   put-line : (ws vs : List ℕ) (x made shown : ℕ) (ds : List (Driver ℕ)) (d : Driver ℕ) → x < length ws →
-      shown ≡ heldWord line word x made → drive (ruleOf line word k) (bitsOf k (take x ws)) d ≡ bitOf k made →
+      bitOf k shown ≡ bitOf k (heldWord line word x made) → drive (ruleOf line word k) (bitsOf k (take x ws)) d ≡ bitOf k made →
       bitsOf k (take x ws) ≡ workOut (ruleOf line word k) ds vs →
       bitsOf k (take (x + 1) (set ws x shown)) ≡ workOut (ruleOf line word k) (ds ++ (d ∷ [])) vs
   unfolding workOut
@@ -51,7 +51,7 @@ module _ (k line word : ℕ) where
       rw (add-one x, take-suc-set ws x shown l)
       (map-append (bitOf k) (take x ws) (shown ∷ [])
       ∙ ap (λ (v : ℕ). bitsOf k (take x ws) ++ (v ∷ []))
-      (ap (bitOf k) es ∙ shows-bit x made ∙ ap₂ (ruleOf line word k .shows) (sym size) (sym ed))
+      (es ∙ shows-bit x made ∙ ap₂ (ruleOf line word k .shows) (sym size) (sym ed))
       ∙ ap (workOut (ruleOf line word k) (d ∷ [])) e
       ∙ sym (run-append (ruleOf line word k) ds (d ∷ []) vs))
 
@@ -69,30 +69,31 @@ module _ (k line word : ℕ) where
       let room : 2 + 2 * i + 1 < length (set ws (2 + 2 * i) t) = rw length-set (omega arith) in
       let next : gateLine (i + 1) ≡ 2 + 2 * i + 1 + 1 = omega arith in
       rw next
-      (put-line (set ws (2 + 2 * i) t) vs (2 + 2 * i + 1) (bitXor on ones) f (rails ++ (on-rail ∷ [])) off-rail room ef
+      (put-line (set ws (2 + 2 * i) t) vs (2 + 2 * i + 1) (bitXor on ones) f (rails ++ (on-rail ∷ [])) off-rail room (ap (bitOf k) ef)
       (sym (bit-flip k on (x i) lk eo))
-      (put-line ws vs (2 + 2 * i) on t rails on-rail (omega arith) et (sym eo) e)
+      (put-line ws vs (2 + 2 * i) on t rails on-rail (omega arith) (ap (bitOf k) et) (sym eo) e)
       ∙ ap (λ (ds : List (Driver ℕ)). workOut (ruleOf line word k) ds vs)
       (append-assoc rails (on-rail ∷ []) (off-rail ∷ [])
       ∙ sym (map-append rail (codeRails i x) (bit (x i) ∷ bit (not (x i)) ∷ []))
       ∙ ap (λ (n : ℕ). map rail (codeRails n x)) (sym (add-one i))))
 
   -- A gate more.
-  pub gates-more : (ws vs gates : List ℕ) (first g left right made shown : ℕ) → first + g < length ws →
+  pub gates-more : (ws vs gates : List ℕ) (first g shown : ℕ) → first + g < length ws →
       gateAt gates g .left < first + g → gateAt gates g .right < first + g →
-      left ≡ getD ws (gateAt gates g .left) 0 → right ≡ getD ws (gateAt gates g .right) 0 →
-      made ≡ gateWord (getD gates (5 * g) 0) left right → shown ≡ heldWord line word (first + g) made →
+      bitOf k shown
+      ≡ bitOf k (heldWord line word (first + g)
+      (gateWord (getD gates (5 * g) 0) (getD ws (gateAt gates g .left) 0) (getD ws (gateAt gates g .right) 0))) →
       bitsOf k (take (first + g) ws) ≡ workOut (ruleOf line word k) (map gate (listed (gateAt gates) g 0)) vs →
       bitsOf k (take (first + (g + 1)) (set ws (first + g) shown))
       ≡ workOut (ruleOf line word k) (map gate (listed (gateAt gates) (g + 1) 0)) vs
   unfolding drive
-  gates-more ws vs gates first g left right made shown l ll lr el er em es e =
+  gates-more ws vs gates first g shown l ll lr es e =
       let next : first + (g + 1) ≡ first + g + 1 = omega arith in
       rw next
-      (put-line ws vs (first + g) made shown (map gate (listed (gateAt gates) g 0)) (gate (gateAt gates g)) l es
+      (put-line ws vs (first + g) _ shown (map gate (listed (gateAt gates) g 0)) (gate (gateAt gates g)) l es
       (sym
-      (ap (bitOf k) em ∙ made-bit (getD gates (5 * g) 0) left right
-      ∙ ap₂ (gateOf (getD gates (5 * g) 0)) (source ws (first + g) _ left ll el) (source ws (first + g) _ right lr er)))
+      (made-bit (getD gates (5 * g) 0) _ _
+      ∙ ap₂ (gateOf (getD gates (5 * g) 0)) (source ws (first + g) _ _ ll refl) (source ws (first + g) _ _ lr refl)))
       e
       ∙ ap (λ (ds : List (Driver ℕ)). workOut (ruleOf line word k) ds vs)
       (sym (ap (map gate) (listed-more (gateAt gates) g) ∙ map-append gate (listed (gateAt gates) g 0) (gateAt gates g ∷ []))))

@@ -1,14 +1,14 @@
 -- Words of 64 code inputs: bit k of a line's word is the line's value at input base + k.
-use Prim.Native.Nat.{ℕ, _+_, _/_, _%_, _^_, _≤_}
+use Prim.Native.Nat.{ℕ, _+_, _*_, _/_, _%_, _^_, _≤_, _<_}
 use mathlib.Core.Path.{_≡_}
 use mathlib.Core.Bool.{true, cond}
 use mathlib.Core.List.{List, [], _∷_, map}
 use lib.Bits.{bitAnd, bitOr}
 use lib.Dec.{eqb}
-use lib.ListN.{length}
+use lib.ListN.{length, getD}
 use Rattle.fields.specs.Bounded.{any}
 use Rattle.netlist.specs.declared.Hold.{Hold}
-use Rattle.netlist.specs.Netlist.{Netlist, gateLine, gatesOf, pairsOf}
+use Rattle.netlist.specs.Netlist.{Netlist, gateAt, gateLine, gatesOf, pairsOf}
 use Rattle.netlist.specs.Run.{Rule, holding}
 use Rattle.netlist.specs.Service.{areGates, arePairs}
 use Rattle.faults.specs.Betrayal.{betrays}
@@ -39,11 +39,28 @@ ruleOf line word k = holding (holdOf line word k ∷ [])
 abbrev pub netOf : ℕ → List ℕ → List ℕ → Netlist
 netOf n gates pairs = record { contacts = n; gates = gatesOf gates; pairs = pairsOf pairs }
 
--- What the lines' words are worked out from: gates whose sources are below their own lines, and room for every line.
-pub record Workable (n : ℕ) (gates : List ℕ) (room : ℕ) : Type 0 where
+-- The source lines of the first gates, two numbers a gate; those of a held line's gate are the line of its constant.
+pub record Sourced (first line value count : ℕ) (gates sources : List ℕ) : Type 0 where
+  pub room : 2 * count ≤ length sources
+  pub left : (g : ℕ) → g < count → getD sources (2 * g) 0 ≡ heldWord line value (first + g) (gateAt gates g .left)
+  pub right : (g : ℕ) → g < count → getD sources (2 * g + 1) 0 ≡ heldWord line value (first + g) (gateAt gates g .right)
+
+-- What the gates' words are worked out from: gates whose sources are below their own lines, room for every line, and the held
+-- word on the line of its constant.
+pub record Puttable (first line word : ℕ) (gates sources words : List ℕ) : Type 0 where
+  pub after : 2 ≤ first
+  pub fits : first + length gates / 5 ≤ length words
+  pub wired : areGates first gates ≡ true
+  pub sourced : Sourced first line (bitOf 0 word) (length gates / 5) gates sources
+  pub held : (k : ℕ) → k < 64 → bitOf k (getD words (bitOf 0 word) 0) ≡ bitOf k word
+
+-- What the lines' words are worked out from.
+pub record Workable (n line word : ℕ) (gates sources : List ℕ) (room : ℕ) : Type 0 where
   pub few : n ≤ 12
   pub fits : gateLine n + length gates / 5 ≤ room
   pub wired : areGates (gateLine n) gates ≡ true
+  pub sourced : Sourced (gateLine n) line (bitOf 0 word) (length gates / 5) gates sources
+  pub same : (k : ℕ) → k < 64 → bitOf k word ≡ bitOf 0 word
 
 -- What a search goes through: a netlist in which some code input betrays the held line.
 pub record Searchable (n : ℕ) (gates pairs : List ℕ) (h : Hold) : Type 0 where
@@ -53,3 +70,9 @@ pub record Searchable (n : ℕ) (gates pairs : List ℕ) (h : Hold) : Type 0 whe
   pub paired : arePairs (gateLine n + length gates / 5) pairs ≡ true
   pub value : h .value ≤ 1
   pub seen : any (2 ^ n) (betrays (netOf n gates pairs) h) ≡ true
+
+-- Room for the gates' sources and for every line's words.
+pub record Roomy (n : ℕ) (gates : List ℕ) (sources low high : ℕ) : Type 0 where
+  pub sources-fit : 2 * (length gates / 5) ≤ sources
+  pub low-fits : gateLine n + length gates / 5 ≤ low
+  pub high-fits : gateLine n + length gates / 5 ≤ high

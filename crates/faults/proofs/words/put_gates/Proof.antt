@@ -1,76 +1,66 @@
 -- `faults::words::put_gates` meets its contract. The loop's invariant: at each bit the lines below gate g obey the run rule.
 use borrow.Author.Needs.{needs}
-use Prim.Native.Nat.{ℕ, _+_, _-_, _/_, _≤_, _<_}
-use native.Mathlib.Nat.{add-zero}
+use Prim.Native.Nat.{_-_, _/_, _≤_}
 use native.Mathlib.Omega.{arith}
-use mathlib.Core.Path.{_≡_, refl, ap}
-use mathlib.Core.List.{map}
-use lib.ListN.{length, take, length-set}
-use Rattle.netlist.specs.Netlist.{gateAt, listed, gatesOf}
-use Rattle.netlist.specs.Run.{gate, workOut}
-use Rattle.netlist.proofs.Tests.{GateOn, gates-at}
-use Rattle.faults.specs.Words.{bitsOf, ruleOf}
-use Rattle.faults.proofs.Lines.{gates-more}
+use mathlib.Core.Path.{_≡_}
+use lib.ListN.{length}
+use Rattle.netlist.specs.Netlist.{gatesOf}
+use Rattle.faults.proofs.GateWords.{Made, none-made, more-made, left-in, right-in}
 use Rattle.faults.proofs.words.put_gates.Statement.{statement}
 use Rattle.faults.proofs.words.put_gates.Tie as tie
 
 abbrev Inv-loop : tie.InvT-loop
-Inv-loop gates first line word words₀ g₀ g-end words g =
-    (g ≤ g-end)
-    × (length words ≡ length words₀)
-    × ((k : ℕ) → k < 64 →
-    bitsOf k (take (first + g) words)
-    ≡ workOut (ruleOf line word k) (map gate (listed (gateAt gates) g 0)) (bitsOf k (take first words₀)))
+Inv-loop gates sources first line word low₀ high₀ g₀ g-end low high g =
+    (g ≤ g-end) × Made gates first line word low₀ low g × Made gates first line word high₀ high g
 
 abbrev μ-loop : tie.MeasureT-loop
-μ-loop gates first line word words₀ g₀ g-end words g = g-end - g
+μ-loop gates sources first line word low₀ high₀ g₀ g-end low high g = g-end - g
 
 loop-holds : tie.Need-loop-holds Inv-loop μ-loop
-unfolding workOut listed
-loop-holds c =
-    let start = c .before .before in
-    (omega arith, refl, λ k l. ap (λ (x : ℕ). bitsOf k (take x (start .args .words .now))) (add-zero (start .args .first)))
+loop-holds c = (omega arith, none-made _ _ _ _ _, none-made _ _ _ _ _)
 
-mul-at : tie.Need-mul-at Inv-loop μ-loop
-mul-at c = search needs
+mul-kind : tie.Need-mul-kind Inv-loop μ-loop
+mul-kind c = search needs
 
--- The gate's sources are below its line.
-low : (c : tie.In-loop Inv-loop μ-loop) →
-    let start = c .before .before .before .before in
-    GateOn (start .args .first + c .before .loop .g) (gateAt (start .args .gates .now) (c .before .loop .g))
-low c =
-    let start = c .before .before .before .before in
-    gates-at (start .args .first) (start .args .gates .now) (start .pre .1) (c .before .loop .g) (omega arith)
+shared-slice-read-kind : tie.Need-shared-slice-read-kind Inv-loop μ-loop
+shared-slice-read-kind c = search needs
 
-add-word-at : tie.Need-add-word-at Inv-loop μ-loop
-add-word-at c = search needs
+mul-gate-word : tie.Need-mul-gate-word Inv-loop μ-loop
+mul-gate-word c = search needs
 
-word-at-requires : tie.Need-word-at-requires Inv-loop μ-loop
-word-at-requires c κs = let on = low (c .before) in (omega arith, omega arith)
+gate-word-requires : tie.Need-gate-word-requires Inv-loop μ-loop
+gate-word-requires c κs =
+    let here = c .before .before .before in
+    let low = here .before .before .before .before .before .pre .0 in
+    let left = left-in low (here .loop .g) (omega arith) in
+    let right = right-in low (here .loop .g) (omega arith) in
+    (omega (arith, low .sourced .room), omega arith, omega arith)
 
-add-word-at-2 : tie.Need-add-word-at-2 Inv-loop μ-loop
-add-word-at-2 c = search needs
+mul-gate-word-2 : tie.Need-mul-gate-word-2 Inv-loop μ-loop
+mul-gate-word-2 c = search needs
 
-word-at-requires-2 : tie.Need-word-at-requires-2 Inv-loop μ-loop
-word-at-requires-2 c κs = let on = low (c .before .before .before) in (omega arith, omega arith)
+gate-word-requires-2 : tie.Need-gate-word-requires-2 Inv-loop μ-loop
+gate-word-requires-2 c κs =
+    let here = c .before .before .before .before .before in
+    let high = here .before .before .before .before .before .pre .1 in
+    let left = left-in high (here .loop .g) (omega arith) in
+    let right = right-in high (here .loop .g) (omega arith) in
+    (omega (arith, high .sourced .room), omega arith, omega arith)
 
 add-to : tie.Need-add-to Inv-loop μ-loop
 add-to c = search needs
 
-shared-slice-read-make-word : tie.Need-shared-slice-read-make-word Inv-loop μ-loop
-shared-slice-read-make-word c = search needs
+mul-low : tie.Need-mul-low Inv-loop μ-loop
+mul-low c = search needs
 
-make-word-requires : tie.Need-make-word-requires Inv-loop μ-loop
-make-word-requires c κs = search needs
+slice-write-low : tie.Need-slice-write-low Inv-loop μ-loop
+slice-write-low c = omega arith
 
-show-word-requires : tie.Need-show-word-requires Inv-loop μ-loop
-show-word-requires c κs = search needs
+mul-high : tie.Need-mul-high Inv-loop μ-loop
+mul-high c = search needs
 
-mul-words : tie.Need-mul-words Inv-loop μ-loop
-mul-words c = search needs
-
-slice-write-words : tie.Need-slice-write-words Inv-loop μ-loop
-slice-write-words c = search needs
+slice-write-high : tie.Need-slice-write-high Inv-loop μ-loop
+slice-write-high c = omega arith
 
 add-g : tie.Need-add-g Inv-loop μ-loop
 add-g c = search needs
@@ -80,32 +70,27 @@ loop-less c = search needs
 
 loop-again : tie.Need-loop-again Inv-loop μ-loop
 loop-again c =
-    let read = c .before .before .before in
-    let turn = read .before .before .before .before in
-    let here = turn .before in
-    let start = here .before .before .before in (
+    let here = c .before .before .before .before .before .before in
+    let start = here .before .before .before .before .before in (
       omega arith,
-      simp length-set (here .loop .inv .1),
-      λ k l.
-          gates-more k _ _ (here .loop .words) _ (start .args .gates .now) (start .args .first) (here .loop .g) _ _ _ _ (omega arith)
-          (low turn .left)
-          (low turn .right)
-          (read .before .before .word-at .ensures)
-          (read .word-at2 .ensures)
-          (c .before .make-word .ensures)
-          (c .show-word .ensures)
-          (here .loop .inv .2 k l),
+      more-made _ _ _ _ _ _ (here .loop .low) (here .loop .g) _ (start .pre .0) (omega arith) (c .before .before .gate-word .ensures)
+          (here .loop .inv .1),
+      more-made _ _ _ _ _ _ (here .loop .high) (here .loop .g) _ (start .pre .1) (omega arith) (c .gate-word2 .ensures)
+          (here .loop .inv .2),
     )
 
 same-length : tie.Need-same-length Inv-loop μ-loop
 same-length c = search needs
 
+same-length-2 : tie.Need-same-length-2 Inv-loop μ-loop
+same-length-2 c = search needs
+
 returns : tie.Need-returns Inv-loop μ-loop
 unfolding gatesOf
 returns c =
     let here = c .before in
-    let e : here .loop .g ≡ length (here .before .before .before .args .gates .now) / 5 = omega arith in
-    λ k l. rw e at (here .loop .inv .2 k l)
+    let e : here .loop .g ≡ length (here .before .before .before .before .before .args .gates .now) / 5 = omega arith in
+    (λ k l. rw e at (here .loop .inv .1 .bits k l), λ k l. rw e at (here .loop .inv .2 .bits k l))
 
 pub put-gates-spec : {M : Type 1} → statement M
 put-gates-spec =
@@ -114,19 +99,20 @@ put-gates-spec =
     Inv-loop
     μ-loop
     loop-holds
-    mul-at
-    add-word-at
-    word-at-requires
-    add-word-at-2
-    word-at-requires-2
+    mul-kind
+    shared-slice-read-kind
+    mul-gate-word
+    gate-word-requires
+    mul-gate-word-2
+    gate-word-requires-2
     add-to
-    shared-slice-read-make-word
-    make-word-requires
-    show-word-requires
-    mul-words
-    slice-write-words
+    mul-low
+    slice-write-low
+    mul-high
+    slice-write-high
     add-g
     loop-less
     loop-again
     same-length
+    same-length-2
     returns)

@@ -1,130 +1,86 @@
--- `faults::words::search` meets its contract. The loop's invariant: no input below base betrays, so base is below 2 ^ n.
-use borrow.Author.Count.{below-none}
-use Prim.Native.Nat.{ℕ, _+_, _-_, _%_, _^_, _≤_, _<_}
+-- `faults::words::search` meets its contract, by that of `search_in`: each room is enough for the boards that it is for.
+use borrow.Author.Needs.{needs}
+use Prim.Native.Nat.{ℕ, _+_, _*_, _/_, _≤_}
 use native.Mathlib.Omega.{arith}
-use mathlib.Core.Path.{_≡_, refl, ap, _∙_}
-use mathlib.Core.Bool.{Bool, false}
 use mathlib.Core.List.{List}
-use lib.ListN.{length, length-replicate}
-use lib.Pow.{pow-mono}
-use Rattle.diagram.specs.Diagram.{bit}
-use Rattle.faults.specs.Betrayal.{betrays}
-use Rattle.faults.specs.Words.{bitOf, netOf}
-use Rattle.faults.proofs.Found.{clear-all, found}
-use Rattle.faults.proofs.Least.{least-is, within}
+use lib.ListN.{length, replicate, length-replicate}
+use Rattle.netlist.specs.Netlist.{gateLine}
+use Rattle.faults.specs.Words.{Roomy}
 use Rattle.faults.proofs.words.search.Statement.{statement}
 use Rattle.faults.proofs.words.search.Tie as tie
 
--- Whether the held line is betrayed at an input.
-abbrev betrayed : List ℕ → List ℕ → ℕ → ℕ → ℕ → ℕ → Bool
-betrayed gates pairs n line value = betrays (netOf n gates pairs) (record { line = line; value = value })
+roomy : (n : ℕ) (gates : List ℕ) (s w : ℕ) → 2 * (length gates / 5) ≤ s → gateLine n + length gates / 5 ≤ w →
+    Roomy n gates (length (replicate {A = ℕ} s 0)) (length (replicate {A = ℕ} w 0)) (length (replicate {A = ℕ} w 0))
+roomy n gates s w hs hw =
+    record { sources-fit = rw length-replicate hs; low-fits = rw length-replicate hw; high-fits = rw length-replicate hw }
 
-abbrev Inv-loop : tie.InvT-loop
-Inv-loop gates pairs n line value word words₀ base₀ words base =
-    (base % 64 ≡ 0)
-    × (base < 2 ^ n)
-    × (2 ^ n ≤ 4096)
-    × (length words ≡ 10586)
-    × ((a : ℕ) → a < base → betrayed gates pairs n line value a ≡ false)
+slice-aggregate-search-in : tie.Need-slice-aggregate-search-in
+slice-aggregate-search-in c = search needs
 
-abbrev μ-loop : tie.MeasureT-loop
-μ-loop gates pairs n line value word words₀ base₀ words base = 2 ^ n - base
+slice-aggregate-search-in-2 : tie.Need-slice-aggregate-search-in-2
+slice-aggregate-search-in-2 c = search needs
 
-abbrev passes : tie.Start Inv-loop μ-loop → ℕ → Bool
-passes start =
-    let args = start .args in
-    betrayed (args .gates .now) (args .pairs .now) (args .n) (args .line) (args .value)
+slice-aggregate-search-in-3 : tie.Need-slice-aggregate-search-in-3
+slice-aggregate-search-in-3 c = search needs
 
-same-word-requires : tie.Need-same-word-requires Inv-loop μ-loop
-same-word-requires c κs = c .before .before .pre .value
+search-in-requires : tie.Need-search-in-requires
+search-in-requires c κs =
+    let start = c .before .before .before .before .before .before in
+    (start .pre, roomy (start .args .n) (start .args .gates .now) 460 256 (omega (arith, start .pre .few, start .pre .fits)) (omega (arith, start .pre .few, start .pre .fits)))
 
-loop-holds : tie.Need-loop-holds Inv-loop μ-loop
-loop-holds c =
-    let start = c .before .before .before in
-    let none = below-none (λ (a : ℕ). passes start a ≡ false) in (
-      refl,
-      within (passes start) (2 ^ start .args .n) 0 (start .pre .seen) none,
-      pow-mono (start .pre .few),
-      length-replicate {A = ℕ} 10586 0,
-      none,
-    )
+returns : tie.Need-returns
+returns c = search needs
 
-slice-aggregate-betraying : tie.Need-slice-aggregate-betraying Inv-loop μ-loop
-slice-aggregate-betraying c = omega arith
+slice-aggregate-search-in-4 : tie.Need-slice-aggregate-search-in-4
+slice-aggregate-search-in-4 c = search needs
 
-betraying-requires : tie.Need-betraying-requires Inv-loop μ-loop
-betraying-requires c κs =
-    let here = c .before in
-    let start = here .before .before .before .before in
-    (record { few = start .pre .few; fits = omega arith; wired = start .pre .wired }, here .loop .inv .0, start .pre .paired)
+slice-aggregate-search-in-5 : tie.Need-slice-aggregate-search-in-5
+slice-aggregate-search-in-5 c = search needs
 
--- Each bit tells whether its input betrays.
-tells : (c : tie.After-betraying Inv-loop μ-loop) (k : ℕ) → k < 64 →
-    let here = c .before .before in
-    bitOf k (c .betraying .result) ≡ bit (passes (here .before .before .before .before) (here .loop .base + k))
-tells c k l =
-    let here = c .before .before in
-    let args = here .before .before .before .before .args in
-    c .betraying .ensures k l
-    ∙ ap (λ (v : ℕ). bit (betrayed (args .gates .now) (args .pairs .now) (args .n) (args .line) v (here .loop .base + k)))
-    (here .before .same-word .ensures k l)
+slice-aggregate-search-in-6 : tie.Need-slice-aggregate-search-in-6
+slice-aggregate-search-in-6 c = search needs
 
-cast-result : tie.Need-cast-result Inv-loop μ-loop
-cast-result c = omega arith
+search-in-requires-2 : tie.Need-search-in-requires-2
+search-in-requires-2 c κs =
+    let start = c .before .before .before .before .before .before .before in
+    (start .pre, roomy (start .args .n) (start .args .gates .now) 4556 2304 (omega (arith, start .pre .few, start .pre .fits)) (omega (arith, start .pre .few, start .pre .fits)))
 
-lowest-bit-requires : tie.Need-lowest-bit-requires Inv-loop μ-loop
-lowest-bit-requires c κs = omega (arith, c .if1 .taken)
+returns-2 : tie.Need-returns-2
+returns-2 c = search needs
 
-add-result : tie.Need-add-result Inv-loop μ-loop
-add-result c = omega arith
+slice-aggregate-search-in-7 : tie.Need-slice-aggregate-search-in-7
+slice-aggregate-search-in-7 c = search needs
 
-returns : tie.Need-returns Inv-loop μ-loop
-returns c =
-    let asked = c .before .before .before in
-    let here = asked .before .before in
-    let start = here .before .before .before .before in
-    let lowest = c .lowest-bit .ensures in
-    least-is (passes start)
-    (found (passes start) (here .loop .base) (asked .betraying .result) (tells asked) (here .loop .inv .4) (2 ^ start .args .n)
-    (c .lowest-bit .result)
-    (start .pre .seen)
-    (lowest .0)
-    (lowest .1)
-    (lowest .2))
+slice-aggregate-search-in-8 : tie.Need-slice-aggregate-search-in-8
+slice-aggregate-search-in-8 c = search needs
 
-add-base : tie.Need-add-base Inv-loop μ-loop
-add-base c = omega arith
+slice-aggregate-search-in-9 : tie.Need-slice-aggregate-search-in-9
+slice-aggregate-search-in-9 c = search needs
 
-loop-less : tie.Need-loop-less Inv-loop μ-loop
-loop-less c = omega arith
+search-in-requires-3 : tie.Need-search-in-requires-3
+search-in-requires-3 c κs =
+    let start = c .before .before .before .before .before .before .before in
+    (start .pre, roomy (start .args .n) (start .args .gates .now) 21120 10586 (omega (arith, start .pre .few, start .pre .fits)) (omega (arith, start .pre .few, start .pre .fits)))
 
-loop-again : tie.Need-loop-again Inv-loop μ-loop
-loop-again c =
-    let asked = c .before .before in
-    let here = asked .before .before in
-    let start = here .before .before .before .before in
-    let none = clear-all (passes start) (here .loop .base) (asked .betraying .result) (tells asked) (here .loop .inv .4) (c .if1 .left) in (
-      omega arith,
-      within (passes start) (2 ^ start .args .n) (here .loop .base + 64) (start .pre .seen) none,
-      here .loop .inv .2,
-      asked .betraying .kept .1 .1 .1 .1 .1 .1 .0 ∙ here .loop .inv .3,
-      none,
-    )
+returns-3 : tie.Need-returns-3
+returns-3 c = search needs
 
 pub search-spec : {M : Type 1} → statement M
 search-spec =
     tie.close
     (tie.spec
-    Inv-loop
-    μ-loop
-    same-word-requires
-    loop-holds
-    slice-aggregate-betraying
-    betraying-requires
-    cast-result
-    lowest-bit-requires
-    add-result
+    slice-aggregate-search-in
+    slice-aggregate-search-in-2
+    slice-aggregate-search-in-3
+    search-in-requires
     returns
-    add-base
-    loop-less
-    loop-again)
+    slice-aggregate-search-in-4
+    slice-aggregate-search-in-5
+    slice-aggregate-search-in-6
+    search-in-requires-2
+    returns-2
+    slice-aggregate-search-in-7
+    slice-aggregate-search-in-8
+    slice-aggregate-search-in-9
+    search-in-requires-3
+    returns-3)
