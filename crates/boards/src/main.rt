@@ -1,4 +1,5 @@
-// Prints worked boards, one subject after another.
+// Shows the cases that stand on standard input, one on each line: what a service makes of each.
+mod cases;
 mod files;
 mod netlists;
 mod print;
@@ -7,10 +8,13 @@ mod runs;
 mod spelling;
 mod tables;
 
+use libc::STDIN_FILENO;
+
 fn main() {
-    files::show_all();
-    tables::show_all();
-    runs::show_all();
-    netlists::show_all();
-    probes::show_all();
+    let mut text = io::large_buffer();
+    let len = io::read_full(STDIN_FILENO, &mut text);
+    cases::show_all(&text[..len]);
+    if len == 65536 {
+        print::text(b"too long\n");
+    }
 }

@@ -1,16 +1,25 @@
 // Text, numbers and bytes on standard output.
+use crate::spelling;
 use libc::STDOUT_FILENO;
 
 pub fn text(line: &[u8]) {
     io::write_all(STDOUT_FILENO, line);
 }
 
-pub fn number(n: usize) {
-    io::print_decimal(STDOUT_FILENO, n as u64);
-}
-
-pub fn byte(b: u8) {
-    io::print_hex(STDOUT_FILENO, b as u64, 2);
+// A text with up to three numbers in it, one for each `%`.
+pub fn form(line: &[u8], a: usize, b: usize, c: usize) {
+    let numbers = [a, b, c];
+    let mut at = 0;
+    for i in 0..3 {
+        let mark = spelling::find(line, at, b'%');
+        text(&line[at..mark]);
+        if mark == line.len() {
+            return;
+        }
+        io::print_decimal(STDOUT_FILENO, numbers[i] as u64);
+        at = mark + 1;
+    }
+    text(&line[at..]);
 }
 
 // The bytes of a part, each after a space: the first sixteen, and `..` where there are more.
@@ -25,20 +34,29 @@ pub fn bytes(part: &[u8]) {
     }
 }
 
-// What is left of bytes that were lent as points: a digit for a byte that was written, a point for one that was not.
-pub fn signs(part: &[u8]) {
-    if part.len() == 0 {
+fn byte(b: u8) {
+    io::print_hex(STDOUT_FILENO, b as u64, 2);
+}
+
+// A buffer whose first bytes are lent, as points.
+pub type Lent = [u8; 10568];
+
+// A text, and what is left of lent bytes from a place to another: a digit for a byte that was written, a point for one that was
+// not.
+pub fn signs(line: &[u8], lent: &Lent, from: usize, to: usize) {
+    text(line);
+    if to <= from {
         text(b"none");
     }
-    for i in 0..part.len() {
-        sign(part[i]);
+    for i in from..to {
+        sign(lent[i % 10568]);
     }
 }
 
 fn sign(b: u8) {
-    if b == 46 {
+    if b == b'.' {
         text(b".");
     } else {
-        number(b as usize);
+        io::print_decimal(STDOUT_FILENO, b as u64);
     }
 }

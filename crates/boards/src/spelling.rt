@@ -1,19 +1,43 @@
-// Bytes spelt with one sign each: 0 to 9, a to z for 10 to 35, A to Z for 36 to 61. Signs below 0, the space among them, part
-// them and stand for nothing.
-ghost use Prim.Native.Nat.{_+_, min, _≤_};
+// The parts of a case. Bytes are spelt with one sign each: 0 to 9, a to z for 10 to 35, A to Z and the six signs behind Z for 36
+// to 67. Numbers are written with digits. Signs below 0, the space among them, stand for nothing, but a stroke ends a part.
+use crate::print;
+ghost use Prim.Native.Nat.{_+_, _≤_, _<_};
 ghost use lib.ListN.{length};
 
-// The place past the next sign of a kind from a place on, or the text's end.
-pub fn past(text: &[u8], from: usize, sign: u8) -> usize
+// The place of the next sign of a kind from a place on, or the text's end.
+pub fn find(text: &[u8], from: usize, sign: u8) -> usize
     requires { ⌜ from ≤ length (now text) ⌝ }
-    ensures { λ r. ⌜ (min (from + 1) (length (now (text .entry))) ≤ r) × (r ≤ length (now (text .entry))) ⌝ }
+    ensures { λ r. ⌜ (from ≤ r) × (r ≤ length (now (text .entry))) ⌝ }
 {
     for i in from..text.len() {
         if text[i] == sign {
-            return i + 1;
+            return i;
         }
     }
     text.len()
+}
+
+// Writes the parts that a text spells behind its first sign as fields. Says no where there is no sign, or where the parts are too
+// long.
+pub fn spell(text: &[u8], case: &mut [u8; 1024]) -> bool {
+    let mut start = 0;
+    let mut end = 3;
+    for i in 1..text.len() {
+        let sign = text[i];
+        if 1020 < end {
+            return false;
+        }
+        if sign == b'/' {
+            put_length(case, start, end);
+            start = end;
+            end += 3;
+        } else if 47 < sign {
+            case[end] = byte_of(sign);
+            end += 1;
+        }
+    }
+    put_length(case, start, end);
+    0 < text.len()
 }
 
 // The byte that a sign stands for.
@@ -27,20 +51,33 @@ fn byte_of(sign: u8) -> u8 {
     sign - 87
 }
 
-// Writes the bytes that a text spells to a file, as far as it goes, and returns how many there are.
-pub fn spell(text: &[u8], file: &mut [u8]) -> usize
-    ensures { λ r. ⌜ r ≤ length (now (file .entry)) ⌝ }
+// Writes the length of a field that starts and ends at a place.
+fn put_length(case: &mut [u8; 1024], start: usize, end: usize)
+    requires { ⌜ (start + 3 ≤ end) × (end ≤ 1024) ⌝ }
 {
-    let mut len = 0;
-    for i in 0..text.len() {
-        if len == file.len() {
-            return len;
-        }
-        let sign = text[i];
-        file[len] = byte_of(sign);
-        if 47 < sign {
-            len += 1;
-        }
+    let len = end - start - 3;
+    case[start + 1] = (len / 256) as u8;
+    case[start + 2] = (len % 256) as u8;
+}
+
+// The number that the digits of a case's part are, which is to be below a bound.
+pub fn number(case: &[u8], part: usize, bound: usize) -> usize
+    requires { ⌜ 0 < bound ⌝ }
+    ensures { λ r. ⌜ r < bound ⌝ }
+{
+    let n = digits(fields::nth(case, part));
+    if n < bound {
+        return n;
     }
-    len
+    print::text(b": too large");
+    0
+}
+
+// The number that digits are, the last eighteen of them.
+fn digits(part: &[u8]) -> usize {
+    let mut n = 0;
+    for i in 0..part.len() {
+        n = n % 100000000000000000 * 10 + fields::byte(part, i) as usize;
+    }
+    n
 }

@@ -1,23 +1,21 @@
 -- `netlists::kept` meets its contract. The loop's invariant: at most each byte passed was counted. The measure is how many bytes are left.
 use Prim.Native.Nat.{_-_, _≤_}
-use mathlib.Core.Path.{_≡_}
 use mathlib.Core.Logic.{⊎-elim}
 use borrow.Author.Needs.{needs}
-use lib.ListN.{length}
 use Rattle.boards.proofs.netlists.kept.Statement.{statement}
 use Rattle.boards.proofs.netlists.kept.Tie as tie
 
 abbrev Inv-loop : tie.InvT-loop
-Inv-loop file count₀ i₀ i-end count i = (i-end ≡ length file) × (count ≤ i)
+Inv-loop file len count₀ i₀ count i = count ≤ i
 
 abbrev μ-loop : tie.MeasureT-loop
-μ-loop file count₀ i₀ i-end count i = i-end - i
+μ-loop file len count₀ i₀ count i = len - i
 
 loop-holds : tie.Need-loop-holds Inv-loop μ-loop
 loop-holds c = search needs
 
-shared-slice-read-if1 : tie.Need-shared-slice-read-if1 Inv-loop μ-loop
-shared-slice-read-if1 c = search needs
+element-copy-out-if1 : tie.Need-element-copy-out-if1 Inv-loop μ-loop
+element-copy-out-if1 c = search needs
 
 add-count : tie.Need-add-count Inv-loop μ-loop
 add-count c = search needs
@@ -41,7 +39,7 @@ kept-spec =
     Inv-loop
     μ-loop
     loop-holds
-    shared-slice-read-if1
+    element-copy-out-if1
     add-count
     add-i
     loop-less

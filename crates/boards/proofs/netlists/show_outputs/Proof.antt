@@ -8,16 +8,34 @@ use Rattle.boards.proofs.netlists.show_outputs.Statement.{statement}
 use Rattle.boards.proofs.netlists.show_outputs.Tie as tie
 
 abbrev Inv-loop : tie.InvT-loop
-Inv-loop outputs j₀ t3 j-end j = j-end ≡ length outputs / 4
+Inv-loop outputs j₀ t5 j-end j = j-end ≡ length outputs / 4
 
 abbrev μ-loop : tie.MeasureT-loop
-μ-loop outputs j₀ t3 j-end j = j-end - j
+μ-loop outputs j₀ t5 j-end j = j-end - j
 
 loop-holds : tie.Need-loop-holds Inv-loop μ-loop
 loop-holds c = search needs
 
-show-output-requires : tie.Need-show-output-requires Inv-loop μ-loop
-show-output-requires c κs = search needs
+mul-number-at : tie.Need-mul-number-at Inv-loop μ-loop
+mul-number-at c = search needs
+
+number-at-requires : tie.Need-number-at-requires Inv-loop μ-loop
+number-at-requires c κs = search needs
+
+mul-number-at-2 : tie.Need-mul-number-at-2 Inv-loop μ-loop
+mul-number-at-2 c = search needs
+
+add-number-at : tie.Need-add-number-at Inv-loop μ-loop
+add-number-at c = search needs
+
+number-at-requires-2 : tie.Need-number-at-requires-2 Inv-loop μ-loop
+number-at-requires-2 c κs = search needs
+
+slice-aggregate-form : tie.Need-slice-aggregate-form Inv-loop μ-loop
+slice-aggregate-form c = search needs
+
+form-requires : tie.Need-form-requires Inv-loop μ-loop
+form-requires c κs = search needs
 
 add-j : tie.Need-add-j Inv-loop μ-loop
 add-j c = search needs
@@ -27,12 +45,6 @@ loop-less c = search needs
 
 loop-again : tie.Need-loop-again Inv-loop μ-loop
 loop-again c = search needs
-
-slice-aggregate-text : tie.Need-slice-aggregate-text Inv-loop μ-loop
-slice-aggregate-text c = search needs
-
-text-requires : tie.Need-text-requires Inv-loop μ-loop
-text-requires c κs = search needs
 
 returns : tie.Need-returns Inv-loop μ-loop
 returns c = search needs
@@ -44,10 +56,14 @@ show-outputs-spec =
     Inv-loop
     μ-loop
     loop-holds
-    show-output-requires
+    mul-number-at
+    number-at-requires
+    mul-number-at-2
+    add-number-at
+    number-at-requires-2
+    slice-aggregate-form
+    form-requires
     add-j
     loop-less
     loop-again
-    slice-aggregate-text
-    text-requires
     returns)

@@ -1,28 +1,29 @@
--- `print::signs` meets its contract. The loop's invariant: its end is how many bytes there are. The measure is how many are left.
+-- `print::signs` meets its contract. The loop's invariant says nothing. The measure is how many bytes are left.
 use Prim.Native.Nat.{_-_}
-use mathlib.Core.Path.{_≡_}
 use borrow.Author.Needs.{needs}
-use lib.ListN.{length}
 use Rattle.boards.proofs.print.signs.Statement.{statement}
 use Rattle.boards.proofs.print.signs.Tie as tie
 
 abbrev Inv-loop : tie.InvT-loop
-Inv-loop part i₀ i-end i = i-end ≡ length part
+Inv-loop line lent from to i₀ i = Unit
 
 abbrev μ-loop : tie.MeasureT-loop
-μ-loop part i₀ i-end i = i-end - i
-
-slice-aggregate-text : tie.Need-slice-aggregate-text Inv-loop μ-loop
-slice-aggregate-text c = search needs
+μ-loop line lent from to i₀ i = to - i
 
 text-requires : tie.Need-text-requires Inv-loop μ-loop
 text-requires c κs = search needs
 
+slice-aggregate-text : tie.Need-slice-aggregate-text Inv-loop μ-loop
+slice-aggregate-text c = search needs
+
+text-requires-2 : tie.Need-text-requires-2 Inv-loop μ-loop
+text-requires-2 c κs = search needs
+
 loop-holds : tie.Need-loop-holds Inv-loop μ-loop
 loop-holds c = search needs
 
-shared-slice-read-sign : tie.Need-shared-slice-read-sign Inv-loop μ-loop
-shared-slice-read-sign c = search needs
+element-copy-out-sign : tie.Need-element-copy-out-sign Inv-loop μ-loop
+element-copy-out-sign c = search needs
 
 sign-requires : tie.Need-sign-requires Inv-loop μ-loop
 sign-requires c κs = search needs
@@ -45,10 +46,11 @@ signs-spec =
     (tie.spec
     Inv-loop
     μ-loop
-    slice-aggregate-text
     text-requires
+    slice-aggregate-text
+    text-requires-2
     loop-holds
-    shared-slice-read-sign
+    element-copy-out-sign
     sign-requires
     add-i
     loop-less

@@ -1,11 +1,11 @@
--- `tables::past` meets its contract. The loop's invariant: the place lies between where it began and the text's end. The measure is how
+-- `spelling::find` meets its contract. The loop's invariant: the place lies between where it began and the text's end. The measure is how
 -- many signs are left.
 use Prim.Native.Nat.{_-_, _≤_}
 use mathlib.Core.Path.{_≡_}
 use borrow.Author.Needs.{needs}
 use lib.ListN.{length}
-use Rattle.boards.proofs.tables.past.Statement.{statement}
-use Rattle.boards.proofs.tables.past.Tie as tie
+use Rattle.boards.proofs.spelling.find.Statement.{statement}
+use Rattle.boards.proofs.spelling.find.Tie as tie
 
 abbrev Inv-loop : tie.InvT-loop
 Inv-loop text from sign i₀ i-end i = (from ≤ i) × (i ≤ i-end) × (i-end ≡ length text)
@@ -18,9 +18,6 @@ loop-holds c = search needs
 
 shared-slice-read-if1 : tie.Need-shared-slice-read-if1 Inv-loop μ-loop
 shared-slice-read-if1 c = search needs
-
-add-result : tie.Need-add-result Inv-loop μ-loop
-add-result c = search needs
 
 returns : tie.Need-returns Inv-loop μ-loop
 returns c = search needs
@@ -37,15 +34,14 @@ loop-again c = search needs
 returns-2 : tie.Need-returns-2 Inv-loop μ-loop
 returns-2 c = search needs
 
-pub past-spec : {M : Type 1} → statement M
-past-spec =
+pub find-spec : {M : Type 1} → statement M
+find-spec =
     tie.close
     (tie.spec
     Inv-loop
     μ-loop
     loop-holds
     shared-slice-read-if1
-    add-result
     returns
     add-i
     loop-less

@@ -1,0 +1,67 @@
+// Cases, one on each line: a sign for the kind, a space, the name up to a colon, and the parts (spelling.rt), parted by strokes.
+// Parts that are left out are nothing, or 0. A line that starts with a hash is no case.
+//
+//     f NAME: FILE                                              the fields of a file
+//     t NAME: TABLE                                             a table, and what is read off
+//     i NAME: TABLE / INPUT                                     what is read off at one input
+//     b NAME: TABLE                                             the netlist that is built
+//     k NAME: TABLE / ROOM                                      what build keeps of a buffer of so many bytes
+//     r NAME: NETLIST / ROOM / FROM / HOLDS / RAILS / PAIRS     a run with two buffers, the first shown from a place on
+//     g NAME: COUNT / ROOM / FROM / HOLDS / RAILS / PAIRS       the same, of a row of so many gates
+//     p NAME: TABLE / ROOM / FROM / HOLD                        a probe with a buffer that is shown from a place on
+use crate::files;
+use crate::netlists;
+use crate::print;
+use crate::probes;
+use crate::runs;
+use crate::spelling;
+use crate::tables;
+
+pub fn show_all(text: &[u8]) {
+    let mut at = 0;
+    while at < text.len() {
+        let end = spelling::find(text, at, b'\n');
+        show_line(&text[at..end]);
+        if end == text.len() {
+            return;
+        }
+        at = end + 1;
+    }
+}
+
+fn show_line(line: &[u8]) {
+    let kind = fields::byte(line, 0);
+    if kind == b'#' {
+        return;
+    }
+    if 1 < line.len() {
+        let colon = spelling::find(line, 2, b':');
+        print::text(&line[2..colon]);
+        let mut case = [0u8; 1024];
+        if spelling::spell(&line[colon..], &mut case) {
+            show_spelt(kind, &case);
+            return;
+        }
+    }
+    print::text(b": misspelt\n");
+}
+
+fn show_spelt(kind: u8, case: &[u8; 1024]) {
+    show(kind, case);
+    print::text(b"\n");
+}
+
+fn show(kind: u8, case: &[u8]) {
+    let file = fields::nth(case, 0);
+    match kind {
+        b'f' => files::show(file),
+        b't' => tables::show(file),
+        b'i' => tables::show_at(file, case),
+        b'b' => netlists::show(file),
+        b'k' => netlists::show_kept(file, case),
+        b'r' => runs::show(file, case),
+        b'g' => runs::show_row(case),
+        b'p' => probes::show(file, case),
+        _ => print::text(b": of no kind"),
+    }
+}
