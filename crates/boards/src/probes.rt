@@ -2,13 +2,13 @@
 // in the lent buffer from a place on: behind the netlist's file, every line's value from line 0 up.
 use crate::print;
 use crate::spelling;
-use faults::Way;
+use probe::Way;
 
 pub fn show(table: &[u8], case: &[u8]) {
     let len = spelling::number(case, 1, 10568);
     let from = spelling::number(case, 2, 10568);
     let mut lent = [b'.'; 10568];
-    let probed = faults::probe(table, fields::nth(case, 3), &mut lent[0..len]);
+    let probed = probe::probe(table, fields::nth(case, 3), &mut lent[0..len]);
     print::form(
         b": %, input %, output %",
         probed.refusal as usize,

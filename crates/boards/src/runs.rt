@@ -9,7 +9,7 @@ pub fn show(netlist: &[u8], case: &[u8]) {
     let pairs_len = spelling::number(case, 5, 10568);
     let mut lines = [b'.'; 10568];
     let mut pairs = [b'.'; 10568];
-    let refusal = netlist::run(
+    let refusal = simulation::run(
         netlist,
         fields::nth(case, 4),
         fields::nth(case, 3),

@@ -4,7 +4,7 @@ use crate::spelling;
 use diagram::Diagram;
 
 pub fn show(file: &[u8]) {
-    let table = diagram::read(file);
+    let table = table::read(file);
     let refusal = table.refusal;
     print::form(b": %", refusal as usize, 0, 0);
     if refusal == 0 {
@@ -25,7 +25,7 @@ fn shape(d: Diagram) {
 fn words(file: &[u8]) {
     print::text(b"; read off");
     for a in 0..9 {
-        let reading = diagram::read_off(file, a);
+        let reading = table::read_off(file, a);
         let refusal = reading.refusal;
         if refusal != 0 {
             print::form(b" refused %", refusal as usize, 0, 0);
@@ -39,7 +39,7 @@ fn words(file: &[u8]) {
 // What is read off at one input.
 pub fn show_at(file: &[u8], case: &[u8]) {
     let input = spelling::number(case, 1, 4294967296);
-    let reading = diagram::read_off(file, input as u32);
+    let reading = table::read_off(file, input as u32);
     print::form(
         b": %, word %",
         reading.refusal as usize,

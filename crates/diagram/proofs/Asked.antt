@@ -17,8 +17,7 @@ use Rattle.diagram.specs.declared.sound.Numbering.the-variants.{InTurn, 
 use Rattle.diagram.specs.declared.sound.Branching.the-variants.{Throughout, Missing}
 use Rattle.diagram.specs.Bytes.{isBelow, isInTurn, isUnlike, isFork}
 use Rattle.diagram.specs.Diagram.{width, edgeAt, root}
-use Rattle.diagram.specs.Questions.{Sized, inRange, distinct, mention, mentions, inTurn, numbered, branching}
-use Rattle.diagram.specs.Table.{rangeOf, twinsOf, numberingOf, branchingOf}
+use Rattle.diagram.specs.Questions.{Sized, inRange, distinct, mention, mentions, inTurn, numbered, branching, rangeOf, twinsOf, numberingOf, branchingOf}
 
 all-agree : (n : ℕ) (p q : ℕ → Bool) → ((i : ℕ) → i < n → p i ≡ q i) → all n p ≡ all n q
 unfolding all

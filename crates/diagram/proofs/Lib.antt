@@ -6,16 +6,4 @@ pub mod Unique
 pub mod Words
 pub mod Loops
 pub mod Turns
-pub mod Fits
 pub mod Asked
-pub mod Padded
-pub mod Laid
-pub mod Refusals
-pub mod Heads
-pub mod Decoded
-pub mod Shaped
-pub mod Accepted
-pub mod Tables
-pub mod Encode
-pub mod SameFile
-pub mod Promises

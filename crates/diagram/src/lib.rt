@@ -1,20 +1,16 @@
-// Tables: quasi-reduced decision diagrams with several outputs, read from a file under questions 1 to 8, and read off at
-// an input.
-mod decode;
-mod fit;
-mod reading;
+// Quasi-reduced decision diagrams with several outputs: questions 5 to 8 about one, and its outputs at an input.
+mod evaluate;
 mod sound;
 
-pub use fit::Levels;
-pub use fit::Outputs;
-pub use reading::Reading;
-pub use reading::Table;
-pub use reading::read;
-pub use reading::read_off;
+pub use evaluate::word;
 pub use sound::Branching;
 pub use sound::Numbering;
 pub use sound::Range;
 pub use sound::Twins;
+pub use sound::ask_branching;
+pub use sound::ask_numbering;
+pub use sound::ask_range;
+pub use sound::ask_twins;
 
 // A decoded table. Level l has widths[l] nodes, and its edges stand from 16 l on: 16 l + 2 u is the 0-edge of node u,
 // 16 l + 2 u + 1 its 1-edge. Output j starts at node roots[j] of level 0. What lies past the counts is 0.

@@ -7,8 +7,7 @@ ghost use lib.Dec.{ltb};
 ghost use lib.ListN.{length, getD};
 ghost use Rattle.fields.specs.Bounded.{all, any};
 ghost use Rattle.diagram.specs.Bytes.{isBelow, isInTurn, isUnlike, isFork};
-ghost use Rattle.diagram.specs.Questions.{Sized};
-ghost use Rattle.diagram.specs.Table.{rangeOf, twinsOf, numberingOf, branchingOf};
+ghost use Rattle.diagram.specs.Questions.{Sized, rangeOf, twinsOf, numberingOf, branchingOf};
 
 // Question 5's answer.
 pub enum Range {

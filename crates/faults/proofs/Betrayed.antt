@@ -12,24 +12,22 @@ use Rattle.fields.specs.Bounded.{any}
 use Rattle.fields.proofs.Bounded.{any-at}
 use Rattle.diagram.specs.declared.Diagram.{Diagram}
 use Rattle.diagram.specs.Diagram.{inputOf}
-use Rattle.diagram.proofs.Accepted.{accepted}
+use Rattle.table.proofs.Accepted.{accepted}
 use Rattle.diagram.proofs.Inputs.{inputNumber}
 use Rattle.diagram.proofs.Paths.{value-bit}
 use Rattle.diagram.proofs.Unique.{Reduced}
 use Rattle.netlist.specs.declared.Hold.{Hold}
 use Rattle.netlist.specs.declared.Pair.{Pair}
 use Rattle.netlist.specs.Netlist.{lineCount}
-use Rattle.synthesis.specs.Board.{boardOf}
-use Rattle.diagram.specs.Promises.{Accepted}
-use Rattle.diagram.specs.Table.{diagramIn}
-use Rattle.synthesis.specs.Service.{tableBoard}
-use Rattle.synthesis.proofs.Codes.{code-same}
-use Rattle.synthesis.proofs.Held.{shown}
-use Rattle.synthesis.proofs.Pairs.{pair, pairs-length, pairs-at}
-use Rattle.synthesis.proofs.Shown.{board-on, board-off}
+use Rattle.rules.specs.Board.{boardOf, tableBoard}
+use Rattle.table.specs.Promises.{Accepted}
+use Rattle.table.specs.Table.{diagramIn}
+use Rattle.rules.proofs.Codes.{code-same}
+use Rattle.rules.proofs.Held.{shown}
+use Rattle.rules.proofs.Pairs.{pair, pairs-length, pairs-at}
+use Rattle.rules.proofs.Shown.{board-on, board-off}
 use Rattle.faults.specs.Betrayal.{stuckAt, noCode, betrays, smallestInput, lowestIn}
 use Rattle.faults.specs.Promises.{Shows, ShowsRight}
-use Rattle.faults.specs.Service.{wayOf}
 use Rattle.faults.proofs.HeldLines.{one-way-run, stuck-run}
 use Rattle.faults.proofs.Least.{First, least-first}
 use Rattle.faults.proofs.NoUnseen.{no-unseen}
@@ -134,11 +132,9 @@ module _ (table : List ℕ) (yes! : Accepted table) (y b : ℕ) (low : 2 ≤ y) 
       )
 
   -- The pair's true line shows the held value.
-  pub way-at : wayOf (getD (values input) (getD (boardOf d .pairs) (lowestIn (boardOf d) (values input)) (record { on = 0; off = 0 }) .on) 0)
-      ≡ wayOf b
-  way-at =
+  pub true-at : getD (values input) (getD (boardOf d .pairs) (lowestIn (boardOf d) (values input)) (record { on = 0; off = 0 }) .on) 0 ≡ b
+  true-at =
       let output = lowestIn (boardOf d) (values input) in
       let (_, inside, shows, _, _) = smallest-at in
-      ap wayOf
-      (ap (λ (p : Pair). getD (values input) (p .on) 0) (pairs-at d output (record { on = 0; off = 0 }) inside)
-      ∙ sym (board-on d (values input) output inside) ∙ shows .0)
+      ap (λ (p : Pair). getD (values input) (p .on) 0) (pairs-at d output (record { on = 0; off = 0 }) inside)
+      ∙ sym (board-on d (values input) output inside) ∙ shows .0

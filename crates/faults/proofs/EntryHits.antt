@@ -9,14 +9,14 @@ use mathlib.Core.Logic.{⊎-elim}
 use lib.ListN.{length, getD, take}
 use Rattle.fields.specs.Bounded.{any}
 use Rattle.netlist.specs.declared.Gate.{Gate}
-use Rattle.synthesis.specs.declared.Entry.{Entry}
-use Rattle.synthesis.specs.declared.Entry.the-variants.{Never, Always, Line}
-use Rattle.synthesis.specs.Make.{Make, _>>=_, sequence}
-use Rattle.synthesis.specs.Blocks.{Matrix, entryAt, term, linesIn, joined, productEntry, product}
-use Rattle.synthesis.proofs.Makes.{each-left, each-right, ok-sequence}
-use Rattle.synthesis.proofs.Valuations.{Down, Up, shows}
-use Rattle.synthesis.proofs.Terms.{term-down}
-use Rattle.synthesis.proofs.Products.{sure, entry-always, entry-joined}
+use Rattle.rules.specs.declared.Entry.{Entry}
+use Rattle.rules.specs.declared.Entry.the-variants.{Never, Always, Line}
+use Rattle.rules.specs.Make.{Make, _>>=_, sequence}
+use Rattle.rules.specs.Blocks.{Matrix, entryAt, term, linesIn, joined, productEntry, product}
+use Rattle.rules.proofs.Makes.{each-left, each-right, ok-sequence}
+use Rattle.rules.proofs.Valuations.{Down, Up, shows}
+use Rattle.rules.proofs.Terms.{term-down}
+use Rattle.rules.proofs.Products.{sure, entry-always, entry-joined}
 use Rattle.faults.proofs.Live.{lit, dark, lit-down}
 use Rattle.faults.proofs.Hits.{Hit, EachOf, no-hit, hit-append, hit-sequence, hit-table}
 use Rattle.faults.proofs.Positions.{term-of, line-of}

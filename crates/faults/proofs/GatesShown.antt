@@ -7,11 +7,11 @@ use mathlib.Core.Logic.{⊎-elim}
 use Rattle.diagram.specs.declared.Diagram.{Diagram}
 use Rattle.diagram.specs.Diagram.{width}
 use Rattle.diagram.proofs.Unique.{Reduced}
-use Rattle.synthesis.specs.declared.Entry.the-variants.{Never}
-use Rattle.synthesis.specs.Make.{return, _>>=_}
-use Rattle.synthesis.specs.Blocks.{Cut, one, two, size, entryAt, levelEntry, levelMatrix, block}
-use Rattle.synthesis.proofs.BlockDown.{block-down}
-use Rattle.synthesis.proofs.Cuts.{size-pos}
+use Rattle.rules.specs.declared.Entry.the-variants.{Never}
+use Rattle.rules.specs.Make.{return, _>>=_}
+use Rattle.rules.specs.Blocks.{Cut, one, two, size, entryAt, levelEntry, levelMatrix, block}
+use Rattle.rules.proofs.BlockDown.{block-down}
+use Rattle.rules.proofs.Cuts.{size-pos}
 use Rattle.faults.proofs.Live.{lit-down, dark-up, leads, misses}
 use Rattle.faults.proofs.Hits.{Hit, EachOf, no-hit, hit-table}
 use Rattle.faults.proofs.EntryHits.{EntryHit, product-hit}

@@ -11,12 +11,12 @@ use Rattle.diagram.specs.declared.Diagram.{Diagram}
 use Rattle.diagram.specs.Diagram.{Input, bit}
 use Rattle.netlist.specs.declared.Hold.{Hold}
 use Rattle.netlist.specs.Netlist.{lineCount, holdAt, holdsOf, listed}
-use Rattle.netlist.specs.Run.{held}
+use Rattle.simulation.specs.Run.{held}
 use Rattle.netlist.proofs.Lists.{length-holds}
-use Rattle.netlist.proofs.Monotone.{AllHeld, held-by}
-use Rattle.synthesis.specs.Board.{boardOf}
-use Rattle.synthesis.proofs.Makes.{each-weaken}
-use Rattle.synthesis.proofs.Held.{shown, shown-low, shown-high, shown-bits, shown-on, shown-off, shown-gates, shown-line}
+use Rattle.simulation.proofs.Monotone.{AllHeld, held-by}
+use Rattle.rules.specs.Board.{boardOf}
+use Rattle.rules.proofs.Makes.{each-weaken}
+use Rattle.rules.proofs.Held.{shown, shown-low, shown-high, shown-bits, shown-on, shown-off, shown-gates, shown-line}
 use Rattle.faults.proofs.OneWay.{OneWay}
 use Rattle.faults.proofs.Stuck.{Stuck}
 

@@ -7,8 +7,8 @@ use mathlib.Core.List.{List, [], _++_}
 use mathlib.Core.Logic.{_⊎_, inl, inr, ⊎-elim}
 use lib.ListN.{length, getD, length-append}
 use Rattle.netlist.specs.declared.Gate.{Gate}
-use Rattle.synthesis.specs.Make.{Make, _>>=_, sequence}
-use Rattle.synthesis.proofs.Makes.{Each, each-left, each-right}
+use Rattle.rules.specs.Make.{Make, _>>=_, sequence}
+use Rattle.rules.proofs.Makes.{Each, each-left, each-right}
 
 -- Line y is one of some gates, the first of which is line next.
 pub record Hit (y next : ℕ) (gates : List Gate) : Type 0 where

@@ -11,13 +11,13 @@ use Rattle.diagram.specs.Diagram.{width, Input, path}
 use Rattle.diagram.specs.Questions.{inRange}
 use Rattle.diagram.proofs.Paths.{path-more, path-in}
 use Rattle.netlist.specs.declared.Gate.{Gate}
-use Rattle.synthesis.specs.Make.{Make, _>>=_}
-use Rattle.synthesis.specs.Blocks.{Cut, two, size, Matrix, product, block}
-use Rattle.synthesis.proofs.Makes.{each-left, each-right}
-use Rattle.synthesis.proofs.Valuations.{Down, Up, shows, RailsDown}
-use Rattle.synthesis.proofs.Products.{product-down, product-up}
-use Rattle.synthesis.proofs.BlockDown.{block-down}
-use Rattle.synthesis.proofs.BlockUp.{block-up}
+use Rattle.rules.specs.Make.{Make, _>>=_}
+use Rattle.rules.specs.Blocks.{Cut, two, size, Matrix, product, block}
+use Rattle.rules.proofs.Makes.{each-left, each-right}
+use Rattle.rules.proofs.Valuations.{Down, Up, shows, RailsDown}
+use Rattle.rules.proofs.Products.{product-down, product-up}
+use Rattle.rules.proofs.BlockDown.{block-down}
+use Rattle.rules.proofs.BlockUp.{block-up}
 use Rattle.faults.proofs.Hits.{Hit, EachOf, hit-append}
 use Rattle.faults.proofs.Routes.{nodeAt, node-more, node-in}
 use Rattle.faults.proofs.Shown.{entryOf, Shown}

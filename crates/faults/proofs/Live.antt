@@ -19,11 +19,11 @@ use Rattle.diagram.proofs.Paths.{path-more, path-join, path-in}
 use Rattle.diagram.proofs.Apart.{apart}
 use Rattle.diagram.proofs.Unique.{Reduced}
 use Rattle.netlist.specs.declared.Gate.{Gate}
-use Rattle.synthesis.specs.declared.Entry.the-variants.{Never, Always, Line}
-use Rattle.synthesis.specs.Blocks.{Cut, one, two, size, entryAt, levelEntry, levelMatrix, block}
-use Rattle.synthesis.proofs.Makes.{anyGate, Each, Ok, ok-return, ok-bind, ok-weaken, ok-table}
-use Rattle.synthesis.proofs.Valuations.{Down, Up, shows, made-down, made-up}
-use Rattle.synthesis.proofs.Products.{product-down, product-up}
+use Rattle.rules.specs.declared.Entry.the-variants.{Never, Always, Line}
+use Rattle.rules.specs.Blocks.{Cut, one, two, size, entryAt, levelEntry, levelMatrix, block}
+use Rattle.rules.proofs.Makes.{anyGate, Each, Ok, ok-return, ok-bind, ok-weaken, ok-table}
+use Rattle.rules.proofs.Valuations.{Down, Up, shows, made-down, made-up}
+use Rattle.rules.proofs.Products.{product-down, product-up}
 
 -- Every line shows 1, and every line shows 0.
 abbrev pub lit : ℕ → ℕ

@@ -12,14 +12,14 @@ use Rattle.diagram.specs.Questions.{branching}
 use Rattle.diagram.proofs.Paths.{place, width-last, value-bit}
 use Rattle.diagram.proofs.Unique.{Reduced}
 use Rattle.netlist.specs.Netlist.{gateLine, lineCount}
-use Rattle.synthesis.specs.declared.Entry.{Entry}
-use Rattle.synthesis.specs.declared.Entry.the-variants.{Never, Always, Line}
-use Rattle.synthesis.specs.Blocks.{size, cut}
-use Rattle.synthesis.specs.Board.{lineOf, wholeBlock, boardOf}
-use Rattle.synthesis.proofs.Valuations.{shows}
-use Rattle.synthesis.proofs.Cuts.{size-cut}
-use Rattle.synthesis.proofs.Pairs.{wholeEntry, pair}
-use Rattle.synthesis.proofs.Values.{board-down, board-up}
+use Rattle.rules.specs.declared.Entry.{Entry}
+use Rattle.rules.specs.declared.Entry.the-variants.{Never, Always, Line}
+use Rattle.rules.specs.Blocks.{size, cut}
+use Rattle.rules.specs.Board.{lineOf, wholeBlock, boardOf}
+use Rattle.rules.proofs.Valuations.{shows}
+use Rattle.rules.proofs.Cuts.{size-cut}
+use Rattle.rules.proofs.Pairs.{wholeEntry, pair}
+use Rattle.rules.proofs.Values.{board-down, board-up}
 use Rattle.faults.proofs.Routes.{nodeAt}
 use Rattle.faults.proofs.Shown.{Low, High, Shown}
 use Rattle.faults.proofs.GatesShown.{gate-shown}

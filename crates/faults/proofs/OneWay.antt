@@ -11,12 +11,12 @@ use Rattle.diagram.specs.declared.Diagram.{Diagram}
 use Rattle.diagram.specs.Diagram.{bit, Input, valueAt}
 use Rattle.diagram.specs.Questions.{inRange}
 use Rattle.diagram.proofs.Paths.{value-bit}
-use Rattle.netlist.specs.Run.{gateOf}
-use Rattle.synthesis.specs.Board.{boardOf}
-use Rattle.synthesis.proofs.Makes.{each-weaken}
-use Rattle.synthesis.proofs.Pairs.{pair}
-use Rattle.synthesis.proofs.Valuations.{Down, Up, RailsDown, RailsUp, low-down, high-up, made-down, made-up}
-use Rattle.synthesis.proofs.Values.{Gates, board-down, board-up}
+use Rattle.simulation.specs.Run.{gateOf}
+use Rattle.rules.specs.Board.{boardOf}
+use Rattle.rules.proofs.Makes.{each-weaken}
+use Rattle.rules.proofs.Pairs.{pair}
+use Rattle.rules.proofs.Valuations.{Down, Up, RailsDown, RailsUp, low-down, high-up, made-down, made-up}
+use Rattle.rules.proofs.Values.{Gates, board-down, board-up}
 
 -- The board of d at input x with some lines held at b.
 pub record OneWay (d : Diagram) (x : Input) (b : ℕ) (ν : ℕ → ℕ) : Type 0 where

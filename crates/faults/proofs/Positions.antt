@@ -4,9 +4,9 @@ use native.Mathlib.Omega.{arith}
 use mathlib.Core.Path.{_≡_, refl, ap}
 use mathlib.Core.List.{List, [], _∷_}
 use lib.ListN.{length, getD, take}
-use Rattle.synthesis.specs.declared.Entry.{Entry}
-use Rattle.synthesis.specs.declared.Entry.the-variants.{Never, Always, Line}
-use Rattle.synthesis.specs.Blocks.{linesIn}
+use Rattle.rules.specs.declared.Entry.{Entry}
+use Rattle.rules.specs.declared.Entry.the-variants.{Never, Always, Line}
+use Rattle.rules.specs.Blocks.{linesIn}
 
 -- The term of the line at position p, and that the term's position tells p.
 pub record Term (ts : List Entry) (p : ℕ) : Type 0 where

@@ -13,9 +13,9 @@ use Rattle.diagram.specs.Diagram.{width, edge, path}
 use Rattle.diagram.specs.Questions.{branching}
 use Rattle.diagram.proofs.Paths.{edge-in}
 use Rattle.diagram.proofs.Unique.{Reduced}
-use Rattle.synthesis.specs.declared.Entry.the-variants.{Never, Line}
-use Rattle.synthesis.specs.Blocks.{Cut, one, two, size, levelEntry, levelMatrix, block}
-use Rattle.synthesis.proofs.Makes.{ok-return, ok-table}
+use Rattle.rules.specs.declared.Entry.the-variants.{Never, Line}
+use Rattle.rules.specs.Blocks.{Cut, one, two, size, levelEntry, levelMatrix, block}
+use Rattle.rules.proofs.Makes.{ok-return, ok-table}
 use Rattle.faults.proofs.Live.{lit-down}
 use Rattle.faults.proofs.Shown.{entryOf, Shown, low-on, high-on}
 use Rattle.faults.proofs.Lifts.{after, shown-left, shown-right}

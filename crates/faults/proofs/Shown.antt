@@ -8,9 +8,9 @@ use Rattle.diagram.specs.Diagram.{width, Input, path}
 use Rattle.diagram.proofs.Apart.{apart}
 use Rattle.diagram.proofs.Paths.{path-in}
 use Rattle.diagram.proofs.Unique.{Reduced}
-use Rattle.synthesis.specs.declared.Entry.{Entry}
-use Rattle.synthesis.specs.Blocks.{Cut, size, entryAt, block}
-use Rattle.synthesis.proofs.Valuations.{Down, Up, shows, RailsDown, RailsUp}
+use Rattle.rules.specs.declared.Entry.{Entry}
+use Rattle.rules.specs.Blocks.{Cut, size, entryAt, block}
+use Rattle.rules.proofs.Valuations.{Down, Up, shows, RailsDown, RailsUp}
 use Rattle.faults.proofs.Hits.{EachOf}
 use Rattle.faults.proofs.Routes.{nodeAt, Route, route, route-end}
 

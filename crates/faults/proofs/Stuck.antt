@@ -6,10 +6,10 @@ use mathlib.Core.Bool.{not}
 use mathlib.Core.Logic.{inl, inr, by-cases}
 use Rattle.diagram.specs.declared.Diagram.{Diagram}
 use Rattle.diagram.specs.Diagram.{bit, Input}
-use Rattle.netlist.specs.Run.{gateOf}
-use Rattle.synthesis.specs.Board.{boardOf}
-use Rattle.synthesis.proofs.Makes.{each-weaken}
-use Rattle.synthesis.proofs.Values.{Gates}
+use Rattle.simulation.specs.Run.{gateOf}
+use Rattle.rules.specs.Board.{boardOf}
+use Rattle.rules.proofs.Makes.{each-weaken}
+use Rattle.rules.proofs.Values.{Gates}
 use Rattle.faults.proofs.OneWay.{OneWay}
 
 -- The board of d at input x with line y held at b.

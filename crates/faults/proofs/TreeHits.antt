@@ -9,14 +9,14 @@ use mathlib.Core.Logic.{inl, inr, ⊎-elim}
 use lib.ListN.{length, getD, take, drop}
 use lib.Seq.{getD-take, getD-drop}
 use Rattle.netlist.specs.declared.Gate.{Gate}
-use Rattle.synthesis.specs.declared.Entry.{Entry}
-use Rattle.synthesis.specs.declared.Entry.the-variants.{Line}
-use Rattle.synthesis.specs.Make.{_>>=_}
-use Rattle.synthesis.specs.Blocks.{Cut, one, two, size, cut, orTree, joined}
-use Rattle.synthesis.proofs.Makes.{Each, each-left, each-right}
-use Rattle.synthesis.proofs.Valuations.{Down, Up, shows}
-use Rattle.synthesis.proofs.Cuts.{size-pos, size-cut}
-use Rattle.synthesis.proofs.Trees.{tree-down, joined-down, joined-up}
+use Rattle.rules.specs.declared.Entry.{Entry}
+use Rattle.rules.specs.declared.Entry.the-variants.{Line}
+use Rattle.rules.specs.Make.{_>>=_}
+use Rattle.rules.specs.Blocks.{Cut, one, two, size, cut, orTree, joined}
+use Rattle.rules.proofs.Makes.{Each, each-left, each-right}
+use Rattle.rules.proofs.Valuations.{Down, Up, shows}
+use Rattle.rules.proofs.Cuts.{size-pos, size-cut}
+use Rattle.rules.proofs.Trees.{tree-down, joined-down, joined-up}
 use Rattle.faults.proofs.Hits.{Hit, EachOf, no-hit, hit-append}
 
 -- Line y is among the first lines of a list or among the gates that join them to entry e. Held at 0 it keeps the line at one

@@ -8,8 +8,8 @@ use Rattle.fields.specs.Bounded.{any}
 use Rattle.diagram.specs.Diagram.{inputOf}
 use Rattle.netlist.specs.declared.Hold.{Hold}
 use Rattle.netlist.specs.Netlist.{Netlist}
-use Rattle.netlist.specs.Run.{valuesOf}
-use Rattle.synthesis.specs.Code.{codeRails}
+use Rattle.simulation.specs.Run.{valuesOf}
+use Rattle.rules.specs.Code.{codeRails}
 
 -- Every line's value at input number a with one line held.
 unfoldable pub stuckAt : Netlist → Hold → ℕ → List ℕ

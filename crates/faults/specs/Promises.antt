@@ -1,21 +1,20 @@
--- Demand 3, on the definitions that the services' contracts cite.
+-- Demand 3 of boards and stuck lines, on the definitions that the services' contracts cite.
 use Prim.Native.Nat.{ℕ, _+_, _*_, _-_, _^_, _≤_, _<_}
 use mathlib.Core.Path.{_≡_}
 use mathlib.Core.Bool.{true}
-use mathlib.Core.List.{List, _++_}
+use mathlib.Core.List.{List}
 use mathlib.Core.Logic.{_⊎_}
 use lib.ListN.{length, getD}
-use Rattle.fields.specs.Fields.{Bytes}
-use Rattle.diagram.specs.Diagram.{Input, inputOf, valueAt}
+use Rattle.diagram.specs.Diagram.{Input, valueAt}
 use Rattle.netlist.specs.Netlist.{Netlist, holdAt, holdsOf, lineCount, fileOf}
-use Rattle.netlist.specs.Run.{valuesOf, shownBy}
-use Rattle.netlist.specs.Service.{areOrdered, over, runRefusal, runOf}
-use Rattle.synthesis.specs.Code.{codeRails}
-use Rattle.diagram.specs.Promises.{Accepted}
-use Rattle.diagram.specs.Table.{diagramIn}
-use Rattle.synthesis.specs.Service.{tableBoard}
+use Rattle.simulation.specs.Run.{valuesOf, shownBy}
+use Rattle.netlist.specs.Questions.{areOrdered}
+use Rattle.simulation.specs.Service.{over, runRefusal, runOf}
+use Rattle.rules.specs.Code.{codeRails}
+use Rattle.table.specs.Promises.{Accepted}
+use Rattle.table.specs.Table.{diagramIn}
+use Rattle.rules.specs.Board.{tableBoard}
 use Rattle.faults.specs.Betrayal.{stuckAt}
-use Rattle.faults.specs.Service.{wayOf, probeRefusal, probingOf}
 
 -- Output j's pair among line values: the true line's value a and the false line's value b.
 abbrev pub Shows : Netlist → List ℕ → ℕ → ℕ → ℕ → Type 0
@@ -49,31 +48,6 @@ NoUnseenLine =
     (table : List ℕ) → Accepted table → (line b : ℕ) → 2 ≤ line → line < lineCount (tableBoard table) → b ≤ 1 →
     (a : ℕ) × (a < 2 ^ diagramIn table .contacts) × (j : ℕ) × (j < diagramIn table .outputs)
     × Shows (tableBoard table) (stuckAt (tableBoard table) (record { line = line; value = b }) a) j b b
-
--- What a probe returns, if it is not refused: the smallest such input, the lowest output that shows it there, and the way it shows,
--- both low exactly if the line was held at 0. At every lower input all pairs show their right code, and at that input all pairs of
--- lower outputs do.
-abbrev pub Smallest : Type 0
-Smallest =
-    (table hold buffer : List ℕ) → Bytes table → probeRefusal table hold (length buffer) ≡ 0 →
-    let net = tableBoard table in
-    let held = holdAt hold 0 in
-    let found = probingOf table hold buffer .answer in
-    (found .input < 2 ^ diagramIn table .contacts)
-    × (found .output < diagramIn table .outputs)
-    × Shows net (stuckAt net held (found .input)) (found .output) (held .value) (held .value)
-    × ((a j : ℕ) → a < found .input → j < diagramIn table .outputs → ShowsRight table (inputOf a) (stuckAt net held a) j)
-    × ((j : ℕ) → j < found .output → ShowsRight table (inputOf (found .input)) (stuckAt net held (found .input)) j)
-    × (found .way ≡ wayOf (held .value))
-
--- What it leaves in the buffer: the file that build writes, then every line's value at that input with that hold.
-abbrev pub ProbeWrites : Type 0
-ProbeWrites =
-    (table hold buffer : List ℕ) → probeRefusal table hold (length buffer) ≡ 0 →
-    let net = tableBoard table in
-    let probing = probingOf table hold buffer in
-    let values = valuesOf net (codeRails (net .contacts) (inputOf (probing .answer .input))) (holdsOf hold) in
-    probing .buffer ≡ over (fileOf net ++ values) buffer
 
 -- Such values, and each output's pair of them, are what a run of that file writes, if it is not refused.
 abbrev pub RunWrites : Type 0

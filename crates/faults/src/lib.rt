@@ -1,7 +1,1 @@
-// Stuck lines: no line stays unseen, and the smallest input that betrays one.
-mod service;
-mod words;
-
-pub use service::Probed;
-pub use service::Way;
-pub use service::probe;
+// Stuck lines on boards, and demand 3 about them: specs/ and proofs/. The code that finds one is in `search` and `probe`.

@@ -17,7 +17,7 @@ use Rattle.netlist.specs.declared.form.Form.{Form}
 use Rattle.netlist.specs.declared.form.Form.the-variants.{Formed, Unformed}
 use Rattle.netlist.specs.declared.wiring.Wiring.the-variants.{Sound, Unsound}
 use Rattle.netlist.specs.Netlist.{gateLine}
-use Rattle.netlist.specs.Service.{hasParts, areParts, formOf, formNumber, areGates, arePairs, isSound, wiringNumber, netlistOf, netlistRefusal}
+use Rattle.netlist.specs.Questions.{hasParts, areParts, formOf, formNumber, areGates, arePairs, isSound, wiringNumber, netlistOf, netlistRefusal}
 use Rattle.netlist.proofs.Lists.{length-gates, getD-gates, length-pairs, getD-pairs}
 use Rattle.netlist.proofs.Tests.{gates-at, pairs-at, Bounds, Wired, Shown}
 

@@ -17,7 +17,7 @@ use Rattle.netlist.specs.declared.Gate.{Gate}
 use Rattle.netlist.specs.declared.Pair.{Pair}
 use Rattle.netlist.specs.declared.form.Form.the-variants.{Formed}
 use Rattle.netlist.specs.Netlist.{Netlist, gateLine, gateAt, pairAt, gatesOf, pairsOf, gateBytes, pairBytes, fileOf}
-use Rattle.netlist.specs.Service.{isGate, isPair, hasParts, areParts, formOf, isSound, netlistOf, netlistRefusal}
+use Rattle.netlist.specs.Questions.{isGate, isPair, hasParts, areParts, formOf, isSound, netlistOf, netlistRefusal}
 use Rattle.netlist.proofs.Forms.{formed}
 use Rattle.netlist.proofs.Lists.{length-gates, getD-gates, length-pairs, getD-pairs}
 use Rattle.netlist.proofs.Tests.{on-gate, in-pair, Bounds, Wired, Shown}

@@ -15,7 +15,7 @@ use Rattle.fields.specs.Fields.{Item, Fields, itemOf, stepAt, fieldsFrom, field
 use Rattle.fields.specs.Header.{between, valueIn, contactsIn}
 use Rattle.fields.proofs.Steps.{from-start, items-next}
 use Rattle.netlist.specs.declared.form.Form.the-variants.{Formed, Unformed}
-use Rattle.netlist.specs.Service.{hasParts, areParts, formOf}
+use Rattle.netlist.specs.Questions.{hasParts, areParts, formOf}
 
 -- The count that question 2 finds is the first byte of the first value.
 pub counted : (is : List Item) (n : ℕ) → contactsIn is ≡ Counted n → n ≡ getD (valueIn is 0) 0 0

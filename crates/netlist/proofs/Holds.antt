@@ -10,7 +10,7 @@ use Rattle.fields.proofs.Bounded.{all-more, all-not}
 use Rattle.netlist.specs.declared.Hold.{Hold}
 use Rattle.netlist.specs.declared.drive.Holds.the-variants.{Disordered}
 use Rattle.netlist.specs.Netlist.{holdAt}
-use Rattle.netlist.specs.Service.{isHold, lineBefore, areOrdered, orderOf}
+use Rattle.netlist.specs.Questions.{isHold, lineBefore, areOrdered, orderOf}
 
 -- Hold i, as it was read after the hold before it.
 module _ (lines : ℕ) (holds : List ℕ) (i : ℕ) {before : ℕ} {h : Hold} (b : before ≡ lineBefore holds i) (e : h ≡ holdAt holds i) where

@@ -1,16 +1,6 @@
 pub mod Tests
 pub mod Lists
-pub mod Runs
-pub mod Obeys
-pub mod Related
-pub mod Monotone
-pub mod Waits
 pub mod Forms
 pub mod Holds
 pub mod Accepted
 pub mod Files
-pub mod Answers
-pub mod Outcomes
-pub mod Unrefused
-pub mod Writes
-pub mod Turns

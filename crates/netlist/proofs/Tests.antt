@@ -11,7 +11,7 @@ use Rattle.netlist.specs.declared.Gate.{Gate}
 use Rattle.netlist.specs.declared.Pair.{Pair}
 use Rattle.netlist.specs.declared.Hold.{Hold}
 use Rattle.netlist.specs.Netlist.{Netlist, gateLine, lineCount, gateAt, pairAt, holdAt}
-use Rattle.netlist.specs.Service.{isGate, isPair, isHold, areGates, arePairs, lineBefore, areHolds}
+use Rattle.netlist.specs.Questions.{isGate, isPair, isHold, areGates, arePairs, lineBefore, areHolds}
 
 all-three : (a b c : Bool) → (a && b && c) ≡ true → (a ≡ true) × (b ≡ true) × (c ≡ true)
 all-three a b c e =

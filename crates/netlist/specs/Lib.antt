@@ -1,4 +1,2 @@
 pub mod Netlist
-pub mod Run
-pub mod Service
-pub mod Walk
+pub mod Questions

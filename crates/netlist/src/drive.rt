@@ -2,7 +2,7 @@
 use crate::form;
 ghost use mathlib.Core.Path.{_≡_};
 ghost use Prim.Native.Nat.{_≤_};
-ghost use Rattle.netlist.specs.Service.{railsOf, orderOf, roomOf};
+ghost use Rattle.netlist.specs.Questions.{railsOf, orderOf, roomOf};
 
 // Question 13's answer.
 pub enum Rails {
@@ -48,7 +48,7 @@ pub fn ask_holds(lines: usize, holds: &[u8]) -> Holds
     }
     let mut last = 1;
     for i in 0..holds.len() / 3 {
-        let hold = form::hold(holds, i);
+        let hold = form::hold_at(holds, i);
         if hold.line <= last {
             return Holds::Disordered;
         }

@@ -12,7 +12,7 @@ ghost use Prim.Native.Nat.{_+_, _*_, _≤_, _<_};
 ghost use lib.ListN.{length, drop};
 ghost use Rattle.fields.specs.Fields.{fieldsOf, itemOf};
 ghost use Rattle.netlist.specs.Netlist.{gateAt, pairAt, holdAt, numberAt};
-ghost use Rattle.netlist.specs.Service.{formOf, hasParts, areParts};
+ghost use Rattle.netlist.specs.Questions.{formOf, hasParts, areParts};
 
 // Question 11's answer: the count of contacts.
 pub enum Form {
@@ -84,7 +84,7 @@ fn number_at(bytes: &[u8], at: usize) -> u16
 }
 
 // Gate g of the gates' bytes.
-pub fn gate(bytes: &[u8], g: usize) -> Gate
+pub fn gate_at(bytes: &[u8], g: usize) -> Gate
     requires { ⌜ 5 * g + 5 ≤ length (now bytes) ⌝ }
     ensures { λ r. ⌜ r ≡ gateAt (now (bytes .entry)) g ⌝ }
 {
@@ -96,7 +96,7 @@ pub fn gate(bytes: &[u8], g: usize) -> Gate
 }
 
 // Output j of the outputs' bytes.
-pub fn pair(bytes: &[u8], j: usize) -> Pair
+pub fn pair_at(bytes: &[u8], j: usize) -> Pair
     requires { ⌜ 4 * j + 4 ≤ length (now bytes) ⌝ }
     ensures { λ r. ⌜ r ≡ pairAt (now (bytes .entry)) j ⌝ }
 {
@@ -107,7 +107,7 @@ pub fn pair(bytes: &[u8], j: usize) -> Pair
 }
 
 // Hold i of a hold list's bytes.
-pub fn hold(bytes: &[u8], i: usize) -> Hold
+pub fn hold_at(bytes: &[u8], i: usize) -> Hold
     requires { ⌜ 3 * i + 3 ≤ length (now bytes) ⌝ }
     ensures { λ r. ⌜ r ≡ holdAt (now (bytes .entry)) i ⌝ }
 {

@@ -2,7 +2,7 @@
 use crate::form;
 ghost use mathlib.Core.Path.{_≡_};
 ghost use Prim.Native.Nat.{_≤_};
-ghost use Rattle.netlist.specs.Service.{areGates, arePairs, wiringOf};
+ghost use Rattle.netlist.specs.Questions.{areGates, arePairs, wiringOf};
 
 // Question 12's answer.
 pub enum Wiring {
@@ -16,7 +16,7 @@ fn gates_sound(first: usize, gates: &[u8]) -> bool
     ensures { λ r. ⌜ r ≡ areGates first (now (gates .entry)) ⌝ }
 {
     for g in 0..gates.len() / 5 {
-        let gate = form::gate(gates, g);
+        let gate = form::gate_at(gates, g);
         if 1 < gate.kind {
             return false;
         }
@@ -35,7 +35,7 @@ fn pairs_sound(lines: usize, pairs: &[u8]) -> bool
     ensures { λ r. ⌜ r ≡ arePairs lines (now (pairs .entry)) ⌝ }
 {
     for j in 0..pairs.len() / 4 {
-        let pair = form::pair(pairs, j);
+        let pair = form::pair_at(pairs, j);
         if lines <= pair.on as usize {
             return false;
         }

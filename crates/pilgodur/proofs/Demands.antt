@@ -9,15 +9,18 @@ use lib.Dec.{ltb}
 use lib.ListN.{length}
 use Rattle.fields.specs.Fields.{fieldsOf}
 use Rattle.diagram.specs.Diagram.{inputOf, wordAt}
-use Rattle.diagram.specs.Table.{tableRefusal, tableOf, refusedReading, readingOr, readingOf}
+use Rattle.table.specs.Table.{tableRefusal, tableOf, refusedReading, readingOr, readingOf}
 use Rattle.netlist.specs.declared.Hold.{Hold}
 use Rattle.netlist.specs.Netlist.{Netlist, holdAt}
-use Rattle.netlist.specs.Service.{netlistOf, runRefusal, ranOr, runOf}
-use Rattle.synthesis.specs.Service.{tableBoard, checkedOr, checkedOf, buildRefusal, buildingOr, buildingOf}
-use Rattle.synthesis.proofs.Promises.{within-formulas, built-files-pass, right-code, different-netlists}
-use Rattle.faults.specs.declared.service.Way.the-variants.{BothLow}
-use Rattle.faults.specs.Service.{probeRefusal, probingOr, probingOf}
-use Rattle.faults.proofs.Promises.{no-wrong-lines, run-writes, no-unseen-line, smallest, probe-writes}
+use Rattle.netlist.specs.Questions.{netlistOf}
+use Rattle.simulation.specs.Service.{runRefusal, ranOr, runOf}
+use Rattle.rules.specs.Board.{tableBoard}
+use Rattle.synthesis.specs.Service.{checkedOr, checkedOf, buildRefusal, buildingOr, buildingOf}
+use Rattle.rules.proofs.Promises.{within-formulas, built-files-pass, right-code, different-netlists}
+use Rattle.probe.specs.declared.service.Way.the-variants.{BothLow}
+use Rattle.probe.specs.Service.{probeRefusal, probingOr, probingOf}
+use Rattle.faults.proofs.Promises.{no-wrong-lines, run-writes, no-unseen-line}
+use Rattle.probe.proofs.Promises.{smallest, probe-writes}
 use Rattle.pilgodur.specs.Demands.{Refusals, Demands}
 
 check-refused : (r : ℕ) (net : Netlist) (k : ℕ) → checkedOr r net .refusal ≡ suc k →

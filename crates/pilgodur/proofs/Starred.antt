@@ -6,17 +6,18 @@ use Rattle.fields.specs.Fields.{stepAt, valueOf, fieldsWithin, fieldsFrom, fiel
 use Rattle.fields.specs.Header.{contactsIn, firstNo}
 use Rattle.diagram.specs.Diagram.{width, edgeAt, root, inputOf}
 use Rattle.diagram.specs.Questions.{inRange, distinct, mention, mentions, brought, numbered, branching}
-use Rattle.diagram.specs.Table.{outputsIn, areLevels, padded, diagramOf, fieldsRefusal, diagramRefusal, tableRefusal}
+use Rattle.table.specs.Table.{outputsIn, areLevels, padded, diagramOf, fieldsRefusal, diagramRefusal, tableRefusal}
 use Rattle.netlist.specs.Netlist.{listed, gatesOf, pairsOf, holdsOf, fileOf}
-use Rattle.netlist.specs.Run.{drive, workOut, held, valuesOf, shownOf}
-use Rattle.netlist.specs.Service.{areParts, formOf, isSound, areOrdered, netlistOf, netlistRefusal, runRefusal, runOf}
-use Rattle.synthesis.specs.Make.{_>>=_, sequence}
-use Rattle.synthesis.specs.Blocks.{cutWithin, cut, term, orTree, joined, productEntry, product, levelMatrix, block}
-use Rattle.synthesis.specs.Board.{wholeBlock, boardOf, depthsOf, depthOf}
-use Rattle.synthesis.specs.Code.{codeRails}
+use Rattle.simulation.specs.Run.{drive, workOut, held, valuesOf, shownOf}
+use Rattle.netlist.specs.Questions.{areParts, formOf, isSound, areOrdered, netlistOf, netlistRefusal}
+use Rattle.simulation.specs.Service.{runRefusal, runOf}
+use Rattle.rules.specs.Make.{_>>=_, sequence}
+use Rattle.rules.specs.Blocks.{cutWithin, cut, term, orTree, joined, productEntry, product, levelMatrix, block}
+use Rattle.rules.specs.Board.{wholeBlock, boardOf, depthsOf, depthOf}
+use Rattle.rules.specs.Code.{codeRails}
 use Rattle.synthesis.specs.Service.{checkedOf, buildRefusal, buildingOf}
 use Rattle.faults.specs.Betrayal.{stuckAt, noCode, betrays, leastFrom}
-use Rattle.faults.specs.Service.{probeRefusal, probingOf}
+use Rattle.probe.specs.Service.{probeRefusal, probingOf}
 use mathlib.Core.List.{flatMap}
 
 pub all-starred : AllHold starred

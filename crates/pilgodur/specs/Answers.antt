@@ -1,8 +1,8 @@
 -- The numbers that probe returns to C.
 use Prim.Native.Nat.{ℕ}
-use Rattle.faults.specs.declared.service.Way.{Way}
-use Rattle.faults.specs.declared.service.Way.the-variants.{BothLow, BothHigh}
-use Rattle.faults.specs.declared.service.Probed as core
+use Rattle.probe.specs.declared.service.Way.{Way}
+use Rattle.probe.specs.declared.service.Way.the-variants.{BothLow, BothHigh}
+use Rattle.probe.specs.declared.service.Probed as core
 use Rattle.pilgodur.specs.declared.Probed.{Probed}
 
 -- Low is 0, high is 1.

@@ -6,13 +6,14 @@
 use Prim.Native.Nat.{ℕ, suc}
 use mathlib.Core.Path.{_≡_}
 use mathlib.Core.List.{List}
-use Rattle.diagram.specs.Table.{readingOf, tableOf}
-use Rattle.netlist.specs.Service.{runOf}
+use Rattle.table.specs.Table.{readingOf, tableOf}
+use Rattle.simulation.specs.Service.{runOf}
 use Rattle.synthesis.specs.Service.{checkedOf, buildingOf}
-use Rattle.synthesis.specs.Promises.{WithinFormulas, BuiltFilesPass, RightCode, DifferentNetlists}
-use Rattle.faults.specs.declared.service.Way.the-variants.{BothLow}
-use Rattle.faults.specs.Promises.{NoWrongCode, RunWrites, NoUnseenLine, Smallest, ProbeWrites}
-use Rattle.faults.specs.Service.{probingOf}
+use Rattle.rules.specs.Promises.{WithinFormulas, BuiltFilesPass, RightCode, DifferentNetlists}
+use Rattle.probe.specs.declared.service.Way.the-variants.{BothLow}
+use Rattle.probe.specs.Promises.{Smallest, ProbeWrites}
+use Rattle.faults.specs.Promises.{NoWrongCode, RunWrites, NoUnseenLine}
+use Rattle.probe.specs.Service.{probingOf}
 
 -- Demand 1. The answer to every call is the full result or one numbered refusal; with a refusal every other result is zero, and it
 -- changes no byte that was lent.

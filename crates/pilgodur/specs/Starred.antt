@@ -3,12 +3,12 @@ use Prim.Native.Nat.{ℕ}
 use mathlib.Core.Path.{_≡_}
 use mathlib.Core.List.{List, [], _∷_}
 use lib.ListN.{replicate}
-use Rattle.netlist.specs.Service.{runOf}
+use Rattle.simulation.specs.Service.{runOf}
 use Rattle.synthesis.specs.declared.service.Checked.{Checked}
 use Rattle.synthesis.specs.Service.{checkedOf, buildingOf}
-use Rattle.faults.specs.declared.service.Way.{Way}
-use Rattle.faults.specs.declared.service.Way.the-variants.{BothLow, BothHigh}
-use Rattle.faults.specs.Service.{probingOf}
+use Rattle.probe.specs.declared.service.Way.{Way}
+use Rattle.probe.specs.declared.service.Way.the-variants.{BothLow, BothHigh}
+use Rattle.probe.specs.Service.{probingOf}
 
 -- What a service answers: check's numbers; the file that build writes to a buffer of its length; the pairs that a run of a netlist
 -- writes; probe's input, output and way.

@@ -1,13 +1,13 @@
 // The five services for C. include/pilgodur.h has their prototypes; a byte string is a pointer and then a length there.
-use diagram::Reading;
-use faults::Way;
+use probe::Way;
 use synthesis::Built;
 use synthesis::Checked;
+use table::Reading;
 ghost use mathlib.Core.Path.{_≡_};
-ghost use Rattle.diagram.specs.Table.{tableOf, readingOf};
-ghost use Rattle.netlist.specs.Service.{runOf};
+ghost use Rattle.table.specs.Table.{tableOf, readingOf};
+ghost use Rattle.simulation.specs.Service.{runOf};
 ghost use Rattle.synthesis.specs.Service.{checkedOf, buildingOf};
-ghost use Rattle.faults.specs.Service.{probingOf};
+ghost use Rattle.probe.specs.Service.{probingOf};
 ghost use Rattle.pilgodur.specs.Answers.{wayNumber, probedBy};
 
 // What probe returns to C; the way is 0 for both low, 1 for both high.
@@ -42,7 +42,7 @@ pub extern "C" fn pilgodur_build(table: &[u8], file: &mut [u8]) -> Built
 pub extern "C" fn pilgodur_read_off(table: &[u8], input: u32) -> Reading
     ensures { λ r. ⌜ r ≡ readingOf (tableOf (now (table .entry))) input ⌝ }
 {
-    diagram::read_off(table, input)
+    table::read_off(table, input)
 }
 
 // Runs a netlist with lines held: questions 11 to 14, then 9 for either buffer.
@@ -58,7 +58,7 @@ pub extern "C" fn pilgodur_run(
     ensures { λ _. ⌜ now (lines .exit) ≡ runOf (now (netlist .entry)) (now (rails .entry)) (now (holds .entry)) (now (lines .entry)) (now (pairs .entry)) .lines ⌝ }
     ensures { λ _. ⌜ now (pairs .exit) ≡ runOf (now (netlist .entry)) (now (rails .entry)) (now (holds .entry)) (now (lines .entry)) (now (pairs .entry)) .pairs ⌝ }
 {
-    netlist::run(netlist, rails, holds, lines, pairs)
+    simulation::run(netlist, rails, holds, lines, pairs)
 }
 
 // The number of a way.
@@ -77,7 +77,7 @@ pub extern "C" fn pilgodur_probe(table: &[u8], hold: &[u8], buffer: &mut [u8]) -
     ensures { λ r. ⌜ r ≡ probedBy (probingOf (now (table .entry)) (now (hold .entry)) (now (buffer .entry)) .answer) ⌝ }
     ensures { λ _. ⌜ now (buffer .exit) ≡ probingOf (now (table .entry)) (now (hold .entry)) (now (buffer .entry)) .buffer ⌝ }
 {
-    let probed = faults::probe(table, hold, buffer);
+    let probed = probe::probe(table, hold, buffer);
     let way = probed.way;
     Probed {
         refusal: probed.refusal,

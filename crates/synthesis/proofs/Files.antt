@@ -10,9 +10,9 @@ use Rattle.fields.specs.Fields.{fieldBytes, encoded}
 use Rattle.fields.proofs.Written.{sets-more}
 use Rattle.netlist.specs.declared.Gate.{Gate}
 use Rattle.netlist.specs.Netlist.{Netlist, gateAt, listed, gatesOf, gateBytes, pairBytes, fileOf}
-use Rattle.netlist.specs.Service.{over}
+use Rattle.simulation.specs.Service.{over}
 use Rattle.netlist.proofs.Files.{length-gate-bytes, gates-back}
-use Rattle.netlist.proofs.Writes.{over-at}
+use Rattle.simulation.proofs.Writes.{over-at}
 use Rattle.synthesis.specs.Service.{fileWith}
 use Rattle.synthesis.proofs.WrittenPairs.{listed-same}
 

@@ -7,13 +7,13 @@ use lib.ListN.{getD}
 use Rattle.diagram.specs.declared.Diagram.{Diagram}
 use Rattle.diagram.specs.Diagram.{width, edgeAt}
 use Rattle.netlist.specs.Netlist.{listed}
-use Rattle.synthesis.specs.declared.Entry.{Entry}
-use Rattle.synthesis.specs.declared.Entry.the-variants.{Never}
-use Rattle.synthesis.specs.Make.{Make, return, _>>=_, sequence}
-use Rattle.synthesis.specs.Blocks.{Matrix, entryAt, levelEntry, levelMatrix}
-use Rattle.synthesis.specs.Written.{railOf}
-use Rattle.synthesis.proofs.Binding.{return-bind, sequence-same}
-use Rattle.synthesis.proofs.Cells.{listed-from}
+use Rattle.rules.specs.declared.Entry.{Entry}
+use Rattle.rules.specs.declared.Entry.the-variants.{Never}
+use Rattle.rules.specs.Make.{Make, return, _>>=_, sequence}
+use Rattle.rules.specs.Blocks.{Matrix, entryAt, levelEntry, levelMatrix}
+use Rattle.products.specs.Written.{railOf}
+use Rattle.products.proofs.Binding.{return-bind, sequence-same}
+use Rattle.products.proofs.Cells.{listed-from}
 
 -- The entries of a level, read from the edges' bytes.
 abbrev pub edgeEntry : List ℕ → ℕ → ℕ → ℕ → Entry

@@ -10,11 +10,11 @@ use lib.Seq.{take-suc-set}
 use Rattle.fields.specs.Fields.{numberOf}
 use Rattle.netlist.specs.declared.Gate.{Gate}
 use Rattle.netlist.specs.Netlist.{gateAt, listed}
-use Rattle.netlist.specs.Run.{Driver, Rule, rail, gate, drive, workOut}
+use Rattle.simulation.specs.Run.{Driver, Rule, rail, gate, drive, workOut}
 use Rattle.netlist.proofs.Lists.{listed-more}
-use Rattle.netlist.proofs.Runs.{run-append, run-more}
-use Rattle.synthesis.specs.Board.{largest, depthsOf, depthOf}
-use Rattle.synthesis.specs.Written.{depthsFrom}
+use Rattle.simulation.proofs.Runs.{run-append, run-more}
+use Rattle.rules.specs.Board.{largest, depthsOf, depthOf}
+use Rattle.products.specs.Written.{depthsFrom}
 
 largest-more : (xs : List ℕ) (y : ℕ) → largest (xs ++ (y ∷ [])) ≡ max (largest xs) y
 largest-more [] y = omega arith

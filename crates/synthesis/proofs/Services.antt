@@ -8,22 +8,22 @@ use lib.ListN.{length, take}
 use lib.Seq.{sets}
 use Rattle.fields.specs.Header.{firstNo}
 use Rattle.diagram.specs.declared.Diagram.{Diagram}
-use Rattle.diagram.specs.declared.reading.Table.{Table}
+use Rattle.table.specs.declared.reading.Table.{Table}
 use Rattle.diagram.specs.Questions.{Sized, inRange}
-use Rattle.diagram.specs.Table.{tableRefusal, tableOf}
-use Rattle.diagram.proofs.Tables.{table-refusal, table-accepted, table-diagram}
+use Rattle.table.specs.Table.{tableRefusal, tableOf, diagramIn}
+use Rattle.table.proofs.Tables.{table-refusal, table-accepted, table-diagram}
 use Rattle.netlist.specs.declared.Gate.{Gate}
 use Rattle.netlist.specs.declared.drive.Room.the-variants.{Enough, Short}
 use Rattle.netlist.specs.Netlist.{Netlist, gateAt, listed, gateBytes, pairBytes, fileOf}
-use Rattle.netlist.specs.Service.{roomOf, over}
+use Rattle.netlist.specs.Questions.{roomOf}
+use Rattle.simulation.specs.Service.{over}
 use Rattle.netlist.proofs.Files.{file-length, length-gate-bytes, length-pair-bytes}
-use Rattle.synthesis.specs.Board.{boardOf, depthsOf, depthOf}
-use Rattle.diagram.specs.Table.{diagramIn}
-use Rattle.synthesis.specs.Service.{tableBoard, checkedOr, checkedOf, fileWith, buildRefusal, buildingOf}
-use Rattle.synthesis.proofs.Bounds.{sized-narrow, gates-most}
-use Rattle.synthesis.proofs.Depths.{depth-most}
+use Rattle.rules.specs.Board.{boardOf, depthsOf, depthOf, tableBoard}
+use Rattle.synthesis.specs.Service.{checkedOr, checkedOf, fileWith, buildRefusal, buildingOf}
+use Rattle.rules.proofs.Bounds.{sized-narrow, gates-most}
+use Rattle.rules.proofs.Depths.{depth-most}
 use Rattle.synthesis.proofs.Files.{taken-back, gates-read, file-of}
-use Rattle.synthesis.proofs.Pairs.{pairs-length}
+use Rattle.rules.proofs.Pairs.{pairs-length}
 
 -- The diagram read from a table that is not refused.
 pub record Unrefused (table : List ℕ) (d : Diagram) : Type 0 where

@@ -8,19 +8,19 @@ use Rattle.fields.specs.Bounded.{any}
 use Rattle.diagram.specs.declared.Diagram.{Diagram}
 use Rattle.diagram.specs.Diagram.{width}
 use Rattle.diagram.specs.Questions.{Sized}
-use Rattle.synthesis.specs.declared.Entry.{Entry}
-use Rattle.synthesis.specs.declared.Entry.the-variants.{Always}
-use Rattle.synthesis.specs.Make.{Make, return, _>>=_}
-use Rattle.synthesis.specs.Blocks.{Matrix, entryAt, isAlways, term, linesIn, joined, cut, productEntry, product, levelEntry, block}
-use Rattle.synthesis.specs.Written.{Written, matrixOf, Stored}
-use Rattle.synthesis.proofs.Binding.{sequence-same}
-use Rattle.synthesis.proofs.Bounds.{block-count, sized-narrow}
-use Rattle.synthesis.proofs.Cells.{stored-same}
-use Rattle.synthesis.proofs.Cuts.{size-cut}
-use Rattle.synthesis.proofs.Halves.{cut-single, cut-halves}
+use Rattle.rules.specs.declared.Entry.{Entry}
+use Rattle.rules.specs.declared.Entry.the-variants.{Always}
+use Rattle.rules.specs.Make.{Make, return, _>>=_}
+use Rattle.rules.specs.Blocks.{Matrix, entryAt, isAlways, term, linesIn, joined, cut, productEntry, product, levelEntry, block}
+use Rattle.products.specs.Written.{Written, matrixOf, Stored}
+use Rattle.products.proofs.Binding.{sequence-same}
+use Rattle.rules.proofs.Bounds.{block-count, sized-narrow}
+use Rattle.products.proofs.Cells.{stored-same}
+use Rattle.rules.proofs.Cuts.{size-cut}
+use Rattle.rules.proofs.Halves.{cut-single, cut-halves}
 use Rattle.synthesis.proofs.Levels.{levelOf, level-listed, level-at}
-use Rattle.synthesis.proofs.Products.{sure}
-use Rattle.synthesis.proofs.Writing.{written-return, written-bind, written-own}
+use Rattle.rules.proofs.Products.{sure}
+use Rattle.products.proofs.Writing.{written-return, written-bind, written-own}
 
 any-same : (p q : ℕ → Bool) (n : ℕ) → ((i : ℕ) → i < n → p i ≡ q i) → any n p ≡ any n q
 unfolding any

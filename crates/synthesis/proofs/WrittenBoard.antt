@@ -12,9 +12,9 @@ use Rattle.diagram.specs.Diagram.{width, root}
 use Rattle.diagram.specs.Questions.{inRange}
 use Rattle.diagram.proofs.Paths.{width-last, root-in}
 use Rattle.netlist.specs.Netlist.{gateLine, gateBytes, listed}
-use Rattle.synthesis.specs.Blocks.{Matrix, entryAt, cut, block}
-use Rattle.synthesis.specs.Board.{lineOf, wholeBlock, pairOf, boardOf}
-use Rattle.synthesis.specs.Written.{Written, matrixOf, Stored}
+use Rattle.rules.specs.Blocks.{Matrix, entryAt, cut, block}
+use Rattle.rules.specs.Board.{lineOf, wholeBlock, pairOf, boardOf}
+use Rattle.products.specs.Written.{Written, matrixOf, Stored}
 use Rattle.synthesis.proofs.WrittenPairs.{listed-same}
 
 module _ (d : Diagram) where

@@ -11,9 +11,9 @@ use Rattle.netlist.specs.declared.Gate.{Gate}
 use Rattle.netlist.specs.Netlist.{gateAt, gateBytes, listed}
 use Rattle.netlist.proofs.Files.{length-gate-bytes, gate-back}
 use Rattle.netlist.proofs.Lists.{length-listed}
-use Rattle.synthesis.specs.Board.{boardOf, depthsOf, depthOf}
-use Rattle.synthesis.proofs.Cells.{listed-from}
-use Rattle.synthesis.proofs.Makes.{anyGate}
+use Rattle.rules.specs.Board.{boardOf, depthsOf, depthOf}
+use Rattle.products.proofs.Cells.{listed-from}
+use Rattle.rules.proofs.Makes.{anyGate}
 
 -- The gates that stand at the start of a buffer are read back from it.
 module _ (gs : List Gate) (start : List ℕ) (room : 5 * length gs ≤ length start) where

@@ -4,15 +4,12 @@ use mathlib.Core.List.{List, [], _∷_}
 use lib.ListN.{length}
 use Rattle.fields.specs.Fields.{encoded}
 use Rattle.fields.specs.Header.{firstNo}
-use Rattle.diagram.specs.Table.{diagramIn, tableRefusal}
+use Rattle.table.specs.Table.{tableRefusal}
 use Rattle.netlist.specs.Netlist.{Netlist, fileOf}
-use Rattle.netlist.specs.Service.{roomOf, roomNumber, over}
+use Rattle.netlist.specs.Questions.{roomOf, roomNumber}
+use Rattle.simulation.specs.Service.{over}
 use Rattle.synthesis.specs.declared.service.Checked.{Checked}
-use Rattle.synthesis.specs.Board.{boardOf, depthOf}
-
--- The board of a table: the netlist of its diagram.
-abbrev pub tableBoard : List ℕ → Netlist
-tableBoard table = boardOf (diagramIn table)
+use Rattle.rules.specs.Board.{tableBoard, depthOf}
 
 -- Check returns contacts, outputs, gates and depth, or the table's refusal with every other result zero.
 abbrev pub checkedOr : ℕ → Netlist → Checked

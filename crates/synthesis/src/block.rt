@@ -1,16 +1,14 @@
 // The matrices of levels, and of blocks of several levels.
-use crate::Entry;
-use crate::cell;
-use crate::product;
 use diagram::Diagram;
+use rules::Entry;
 ghost use mathlib.Core.Path.{_≡_};
 ghost use Prim.Native.Nat.{suc, _+_, _*_, _-_, _≤_, _<_};
 ghost use lib.ListN.{length};
 ghost use Rattle.diagram.specs.Questions.{Sized};
 ghost use Rattle.diagram.specs.Diagram as diagrams;
-ghost use Rattle.synthesis.specs.Blocks.{cut, entryAt, levelEntry};
-ghost use Rattle.synthesis.specs.Blocks as blocks;
-ghost use Rattle.synthesis.specs.Written.{Written, Room, railOf, Stored, RowStored};
+ghost use Rattle.rules.specs.Blocks.{cut, entryAt, levelEntry};
+ghost use Rattle.rules.specs.Blocks as blocks;
+ghost use Rattle.products.specs.Written.{Written, Room, railOf, Stored, RowStored};
 
 // The number of nodes of a level; level n has two.
 fn width(d: Diagram, l: usize) -> usize
@@ -46,7 +44,7 @@ fn level_row(zero: u8, one: u8, l: usize, columns: usize, u: usize, cells: &mut 
     ensures { λ _. ⌜ RowStored (now (cells .entry)) (now (cells .exit)) u columns (railOf zero one l) ⌝ }
 {
     for v in 0..columns {
-        cells[8 * u + v] = cell::line_of(rail(zero, one, l, v));
+        cells[8 * u + v] = products::line_of(rail(zero, one, l, v));
     }
 }
 
@@ -91,7 +89,7 @@ pub fn block(
     let total = block(d, middle, rest, &mut right, out, first, halfway);
     let rows = width(d, l);
     let columns = width(d, l + count);
-    product::multiply(
+    products::multiply(
         &left,
         &right,
         rows,

@@ -1,6 +1,5 @@
 // The board of a diagram.
 use crate::block;
-use crate::gate;
 use diagram::Diagram;
 ghost use mathlib.Core.Path.{_≡_};
 ghost use mathlib.Core.Bool.{true};
@@ -11,9 +10,9 @@ ghost use lib.Seq.{sets};
 ghost use Rattle.diagram.specs.Diagram.{width};
 ghost use Rattle.diagram.specs.Questions.{Sized, inRange};
 ghost use Rattle.netlist.specs.Netlist.{gateBytes, pairBytes, listed};
-ghost use Rattle.synthesis.specs.Blocks.{Matrix};
-ghost use Rattle.synthesis.specs.Board.{pairOf, boardOf};
-ghost use Rattle.synthesis.specs.Written.{matrixOf};
+ghost use Rattle.rules.specs.Blocks.{Matrix};
+ghost use Rattle.rules.specs.Board.{pairOf, boardOf};
+ghost use Rattle.products.specs.Written.{matrixOf};
 
 // Writes each output's true line and false line: columns 1 and 0 of its node's row.
 fn put_pairs(d: Diagram, cells: &[u16], pairs: &mut [u8])
@@ -25,8 +24,8 @@ fn put_pairs(d: Diagram, cells: &[u16], pairs: &mut [u8])
         let node = roots[j] as usize;
         let on = cells[8 * node + 1];
         let off = cells[8 * node];
-        gate::put_number(pairs, 4 * j, on);
-        gate::put_number(pairs, 4 * j + 2, off);
+        products::put_number(pairs, 4 * j, on);
+        products::put_number(pairs, 4 * j + 2, off);
     }
 }
 

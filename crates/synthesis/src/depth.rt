@@ -4,8 +4,8 @@ ghost use mathlib.Core.List.{[]};
 ghost use Prim.Native.Nat.{_+_, _*_, _≤_, max};
 ghost use lib.ListN.{length, getD, take, replicate};
 ghost use Rattle.netlist.specs.Netlist.{gateAt, listed};
-ghost use Rattle.synthesis.specs.Board.{largest, depthOf};
-ghost use Rattle.synthesis.specs.Written.{depthsFrom};
+ghost use Rattle.rules.specs.Board.{largest, depthOf};
+ghost use Rattle.products.specs.Written.{depthsFrom};
 
 fn larger(a: u16, b: u16) -> u16
     ensures { λ r. ⌜ r ≡ max a b ⌝ }

@@ -2,7 +2,7 @@
 ghost use mathlib.Core.Path.{_≡_};
 ghost use Prim.Native.Nat.{_+_, _≤_, _<_};
 ghost use lib.ListN.{length};
-ghost use Rattle.netlist.specs.Service.{over};
+ghost use Rattle.simulation.specs.Service.{over};
 ghost use Rattle.synthesis.specs.Service.{fileWith};
 
 // Writes the file of a netlist of n contacts, given the bytes of its gates and of its pairs, from the start of a buffer.

@@ -27,7 +27,7 @@ pub struct Built {
 pub fn check(table: &[u8]) -> Checked
     ensures { λ r. ⌜ r ≡ checkedOf (now (table .entry)) ⌝ }
 {
-    let read = diagram::read(table);
+    let read = table::read(table);
     let refusal = read.refusal;
     if refusal != 0 {
         return Checked {
@@ -69,7 +69,7 @@ pub fn build(table: &[u8], file: &mut [u8]) -> Built
     ensures { λ r. ⌜ r .length ≡ buildingOf (now (table .entry)) (now (file .entry)) .length ⌝ }
     ensures { λ _. ⌜ now (file .exit) ≡ buildingOf (now (table .entry)) (now (file .entry)) .file ⌝ }
 {
-    let read = diagram::read(table);
+    let read = table::read(table);
     let refusal = read.refusal;
     if refusal != 0 {
         return refused(refusal);

@@ -2,7 +2,7 @@
 use borrow.Author.Needs.{needs}
 use Prim.Native.Nat.{ℕ}
 use mathlib.Core.Path.{_≡_, ap}
-use Rattle.faults.specs.declared.service.Probed as core
+use Rattle.probe.specs.declared.service.Probed as core
 use Rattle.pilgodur.specs.declared.Probed.{Probed}
 use Rattle.pilgodur.specs.Answers.{wayNumber, probedBy}
 use Rattle.pilgodur.proofs.pilgodur_probe.Statement.{statement}

@@ -8,7 +8,7 @@ use mathlib.Core.Bool.{true}
 use lib.ListN.{length}
 use Rattle.fields.specs.Bounded.{all}
 use Rattle.fields.proofs.Bounded.{all-none}
-use Rattle.netlist.specs.Service.{isHold, lineBefore, areOrdered}
+use Rattle.netlist.specs.Questions.{isHold, lineBefore, areOrdered}
 use Rattle.netlist.specs.Netlist.{holdAt}
 use Rattle.netlist.proofs.Holds.{disordered, one-more, line-next}
 use Rattle.netlist.proofs.drive.ask_holds.Statement.{statement}
@@ -29,14 +29,14 @@ returns c = simp (ne-eqb _ _ (c .if1 .taken))
 loop-holds : tie.Need-loop-holds Inv-loop μ-loop
 loop-holds c = (refl, omega arith, refl, all-none _)
 
-hold-requires : tie.Need-hold-requires Inv-loop μ-loop
-hold-requires c κs = search needs
+hold-at-requires : tie.Need-hold-at-requires Inv-loop μ-loop
+hold-at-requires c κs = search needs
 
 returns-2 : tie.Need-returns-2 Inv-loop μ-loop
 returns-2 c =
     let hold = c .before .before in
     let inv = hold .before .before .loop .inv in
-    disordered _ _ _ (inv .2) (hold .hold .ensures) (omega arith) (simp (le-ltb _ _ (c .if2 .taken)))
+    disordered _ _ _ (inv .2) (hold .hold-at .ensures) (omega arith) (simp (le-ltb _ _ (c .if2 .taken)))
 
 cast-if3 : tie.Need-cast-if3 Inv-loop μ-loop
 cast-if3 c = search needs
@@ -45,14 +45,14 @@ returns-3 : tie.Need-returns-3 Inv-loop μ-loop
 returns-3 c =
     let hold = c .before .before .before .before in
     let inv = hold .before .before .loop .inv in
-    disordered _ _ _ (inv .2) (hold .hold .ensures) (omega arith)
+    disordered _ _ _ (inv .2) (hold .hold-at .ensures) (omega arith)
     (simp (lt-ltb _ _ (c .before .before .if2 .left), le-ltb _ _ (c .if3 .taken)))
 
 returns-4 : tie.Need-returns-4 Inv-loop μ-loop
 returns-4 c =
     let hold = c .before .before .before .before .before .before in
     let inv = hold .before .before .loop .inv in
-    disordered _ _ _ (inv .2) (hold .hold .ensures) (omega arith)
+    disordered _ _ _ (inv .2) (hold .hold-at .ensures) (omega arith)
     (simp (lt-ltb _ _ (c .before .before .before .before .if2 .left), lt-ltb _ _ (c .before .before .if3 .left), lt-leb _ _ (c .if4 .taken)))
 
 add-i : tie.Need-add-i Inv-loop μ-loop
@@ -69,8 +69,8 @@ loop-again c =
     let inv = loop .loop .inv in (
       inv .0,
       omega arith,
-      line-next (a .lines) (a .holds .now) (loop .loop .i) (inv .2) (hold .hold .ensures),
-      one-more _ _ _ (inv .2) (hold .hold .ensures) (inv .3)
+      line-next (a .lines) (a .holds .now) (loop .loop .i) (inv .2) (hold .hold-at .ensures),
+      one-more _ _ _ (inv .2) (hold .hold-at .ensures) (inv .3)
           (simp (lt-ltb _ _ (c .before .before .before .before .if2 .left), lt-ltb _ _ (c .before .before .if3 .left), le-leb _ _ (c .if4 .left))),
     )
 
@@ -89,7 +89,7 @@ ask-holds-spec =
     μ-loop
     returns
     loop-holds
-    hold-requires
+    hold-at-requires
     returns-2
     cast-if3
     returns-3

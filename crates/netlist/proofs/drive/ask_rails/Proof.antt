@@ -8,7 +8,7 @@ use mathlib.Core.Bool.{true}
 use lib.ListN.{length}
 use Rattle.fields.specs.Bounded.{all}
 use Rattle.fields.proofs.Bounded.{all-none, all-more, all-not}
-use Rattle.netlist.specs.Service.{isBit}
+use Rattle.netlist.specs.Questions.{isBit}
 use Rattle.netlist.proofs.drive.ask_rails.Statement.{statement}
 use Rattle.netlist.proofs.drive.ask_rails.Tie as tie
 

@@ -3,7 +3,7 @@ use borrow.Author.Needs.{needs}
 use borrow.Author.Tests.{not-true, not-false}
 use mathlib.Core.Path.{sym, _∙_}
 use mathlib.Core.Bool.{and-false}
-use Rattle.netlist.specs.Service.{isSound}
+use Rattle.netlist.specs.Questions.{isSound}
 use Rattle.netlist.proofs.wiring.ask_wiring.Statement.{statement}
 use Rattle.netlist.proofs.wiring.ask_wiring.Tie as tie
 

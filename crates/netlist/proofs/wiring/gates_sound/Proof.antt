@@ -8,7 +8,7 @@ use mathlib.Core.Bool.{true}
 use lib.ListN.{length}
 use Rattle.fields.specs.Bounded.{all}
 use Rattle.fields.proofs.Bounded.{all-none, all-more, all-not}
-use Rattle.netlist.specs.Service.{isGate}
+use Rattle.netlist.specs.Questions.{isGate}
 use Rattle.netlist.specs.Netlist.{gateAt}
 use Rattle.netlist.proofs.wiring.gates_sound.Statement.{statement}
 use Rattle.netlist.proofs.wiring.gates_sound.Tie as tie
@@ -23,14 +23,14 @@ abbrev μ-loop : tie.MeasureT-loop
 loop-holds : tie.Need-loop-holds Inv-loop μ-loop
 loop-holds c = (refl, omega arith, all-none _)
 
-gate-requires : tie.Need-gate-requires Inv-loop μ-loop
-gate-requires c κs = search needs
+gate-at-requires : tie.Need-gate-at-requires Inv-loop μ-loop
+gate-at-requires c κs = search needs
 
 returns : tie.Need-returns Inv-loop μ-loop
 returns c =
     let turn = c .before .before .before in
     sym (all-not _ _ (turn .before .loop .g) (omega arith)
-    (sym (ap (isGate _) (c .before .before .gate .ensures)) ∙ simp (lt-leb _ _ (c .if1 .taken))))
+    (sym (ap (isGate _) (c .before .before .gate-at .ensures)) ∙ simp (lt-leb _ _ (c .if1 .taken))))
 
 add-if2 : tie.Need-add-if2 Inv-loop μ-loop
 add-if2 c = search needs
@@ -42,7 +42,7 @@ returns-2 : tie.Need-returns-2 Inv-loop μ-loop
 returns-2 c =
     let gate = c .before .before .before .before in
     sym (all-not _ _ (gate .before .before .loop .g) (omega arith)
-    (sym (ap (isGate _) (gate .gate .ensures)) ∙ simp (le-leb _ _ (c .before .before .if1 .left), le-ltb _ _ (c .if2 .taken))))
+    (sym (ap (isGate _) (gate .gate-at .ensures)) ∙ simp (le-leb _ _ (c .before .before .if1 .left), le-ltb _ _ (c .if2 .taken))))
 
 add-if3 : tie.Need-add-if3 Inv-loop μ-loop
 add-if3 c = search needs
@@ -54,7 +54,7 @@ returns-3 : tie.Need-returns-3 Inv-loop μ-loop
 returns-3 c =
     let gate = c .before .before .before .before .before .before in
     sym (all-not _ _ (gate .before .before .loop .g) (omega arith)
-    (sym (ap (isGate _) (gate .gate .ensures))
+    (sym (ap (isGate _) (gate .gate-at .ensures))
     ∙ simp (le-leb _ _ (c .before .before .before .before .if1 .left), lt-ltb _ _ (c .before .before .if2 .left), le-ltb _ _ (c .if3 .taken))))
 
 add-g : tie.Need-add-g Inv-loop μ-loop
@@ -70,7 +70,7 @@ loop-again c =
       inv .0,
       omega arith,
       all-more _ _ (inv .2)
-          (sym (ap (isGate _) (gate .gate .ensures))
+          (sym (ap (isGate _) (gate .gate-at .ensures))
           ∙ simp (le-leb _ _ (c .before .before .before .before .if1 .left), lt-ltb _ _ (c .before .before .if2 .left), lt-ltb _ _ (c .if3 .left))),
     )
 
@@ -87,7 +87,7 @@ gates-sound-spec =
     Inv-loop
     μ-loop
     loop-holds
-    gate-requires
+    gate-at-requires
     returns
     add-if2
     cast-if2

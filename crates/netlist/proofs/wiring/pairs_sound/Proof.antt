@@ -8,7 +8,7 @@ use mathlib.Core.Bool.{true}
 use lib.ListN.{length}
 use Rattle.fields.specs.Bounded.{all}
 use Rattle.fields.proofs.Bounded.{all-none, all-more, all-not}
-use Rattle.netlist.specs.Service.{isPair}
+use Rattle.netlist.specs.Questions.{isPair}
 use Rattle.netlist.specs.Netlist.{pairAt}
 use Rattle.netlist.proofs.wiring.pairs_sound.Statement.{statement}
 use Rattle.netlist.proofs.wiring.pairs_sound.Tie as tie
@@ -23,8 +23,8 @@ abbrev μ-loop : tie.MeasureT-loop
 loop-holds : tie.Need-loop-holds Inv-loop μ-loop
 loop-holds c = (refl, omega arith, all-none _)
 
-pair-requires : tie.Need-pair-requires Inv-loop μ-loop
-pair-requires c κs = search needs
+pair-at-requires : tie.Need-pair-at-requires Inv-loop μ-loop
+pair-at-requires c κs = search needs
 
 cast-if1 : tie.Need-cast-if1 Inv-loop μ-loop
 cast-if1 c = search needs
@@ -33,7 +33,7 @@ returns : tie.Need-returns Inv-loop μ-loop
 returns c =
     let pair = c .before .before in
     sym (all-not _ _ (pair .before .before .loop .j) (omega arith)
-    (sym (ap (isPair _) (pair .pair .ensures)) ∙ simp (le-ltb _ _ (c .if1 .taken))))
+    (sym (ap (isPair _) (pair .pair-at .ensures)) ∙ simp (le-ltb _ _ (c .if1 .taken))))
 
 cast-if2 : tie.Need-cast-if2 Inv-loop μ-loop
 cast-if2 c = search needs
@@ -42,7 +42,7 @@ returns-2 : tie.Need-returns-2 Inv-loop μ-loop
 returns-2 c =
     let pair = c .before .before .before .before in
     sym (all-not _ _ (pair .before .before .loop .j) (omega arith)
-    (sym (ap (isPair _) (pair .pair .ensures)) ∙ simp (lt-ltb _ _ (c .before .before .if1 .left), le-ltb _ _ (c .if2 .taken))))
+    (sym (ap (isPair _) (pair .pair-at .ensures)) ∙ simp (lt-ltb _ _ (c .before .before .if1 .left), le-ltb _ _ (c .if2 .taken))))
 
 add-j : tie.Need-add-j Inv-loop μ-loop
 add-j c = search needs
@@ -57,7 +57,7 @@ loop-again c =
       inv .0,
       omega arith,
       all-more _ _ (inv .2)
-          (sym (ap (isPair _) (pair .pair .ensures)) ∙ simp (lt-ltb _ _ (c .before .before .if1 .left), lt-ltb _ _ (c .if2 .left))),
+          (sym (ap (isPair _) (pair .pair-at .ensures)) ∙ simp (lt-ltb _ _ (c .before .before .if1 .left), lt-ltb _ _ (c .if2 .left))),
     )
 
 returns-3 : tie.Need-returns-3 Inv-loop μ-loop
@@ -73,7 +73,7 @@ pairs-sound-spec =
     Inv-loop
     μ-loop
     loop-holds
-    pair-requires
+    pair-at-requires
     cast-if1
     returns
     cast-if2

@@ -3,14 +3,14 @@ use Prim.Native.Nat.{ℕ, _+_, _-_, _/_, _<_}
 use borrow.Fn.Kinds.{In}
 use borrow.Fn.PlainCycle.{Measures, is, falls, and}
 use native.Mathlib.Omega.{arith}
-use Rattle.synthesis.proofs.Bounds.{sized-narrow}
+use Rattle.rules.proofs.Bounds.{sized-narrow}
 use Rattle.synthesis.proofs.WrittenBlocks.{built-one, built-two, built-few}
 use Rattle.synthesis.proofs.block.block.Reads as block
 use Rattle.synthesis.proofs.block.block.Kinds as block-kinds
 use Rattle.synthesis.proofs.block.+block.Lts-block as block-lts
 use Rattle.synthesis.proofs.block.level.Reads as level-reads
 use Rattle.synthesis.proofs.block.width.Reads as width-reads
-use Rattle.synthesis.proofs.product.multiply.Reads as multiply-reads
+use Rattle.products.proofs.multiply.Reads as multiply-reads
 use Rattle.synthesis.proofs.block.+block.{statement}
 use Rattle.synthesis.proofs.block.+block.Tie.{close}
 

@@ -7,9 +7,9 @@ use native.Mathlib.Numerals.{add-one, add-one-le}
 use mathlib.Core.Path.{_≡_, refl, ap, _∙_}
 use lib.ListN.{length}
 use Rattle.diagram.specs.Diagram.{width}
-use Rattle.synthesis.specs.Written.{Stored}
-use Rattle.synthesis.proofs.Bounds.{sized-narrow}
-use Rattle.synthesis.proofs.Cells.{rows-none, rows-more, stored-same}
+use Rattle.products.specs.Written.{Stored}
+use Rattle.rules.proofs.Bounds.{sized-narrow}
+use Rattle.products.proofs.Cells.{rows-none, rows-more, stored-same}
 use Rattle.synthesis.proofs.Levels.{edgeEntry, edge-entry}
 use Rattle.synthesis.proofs.block.level.Statement.{statement}
 use Rattle.synthesis.proofs.block.level.Tie as tie

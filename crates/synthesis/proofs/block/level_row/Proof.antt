@@ -4,10 +4,10 @@ use native.Mathlib.Omega.{arith}
 use Prim.Native.Nat.{_≤_, _-_}
 use mathlib.Core.Path.{_≡_, refl, ap, _∙_}
 use lib.ListN.{length, length-set}
-use Rattle.synthesis.specs.Board.{lineOf}
-use Rattle.synthesis.specs.Written.{entryOf, railOf, RowStored}
-use Rattle.synthesis.proofs.Cells.{row-none, row-more}
-use Rattle.synthesis.proofs.Standing.{rail-stands}
+use Rattle.rules.specs.Board.{lineOf}
+use Rattle.products.specs.Written.{entryOf, railOf, RowStored}
+use Rattle.products.proofs.Cells.{row-none, row-more}
+use Rattle.products.proofs.Standing.{rail-stands}
 use Rattle.synthesis.proofs.block.level_row.Statement.{statement}
 use Rattle.synthesis.proofs.block.level_row.Tie as tie
 

@@ -6,8 +6,8 @@ use mathlib.Core.Path.{_≡_, sym, _∙_}
 use lib.ListN.{length, take}
 use lib.Seq.{length-take-le}
 use Rattle.netlist.specs.declared.drive.Room.the-variants.{Enough}
-use Rattle.netlist.specs.Service.{roomOf}
-use Rattle.netlist.proofs.Answers.{enough}
+use Rattle.netlist.specs.Questions.{roomOf}
+use Rattle.simulation.proofs.Answers.{enough}
 use Rattle.synthesis.proofs.Services.{Unrefused, unrefused, answered, build-refused, file-is, build-short, build-done}
 use Rattle.synthesis.proofs.service.build.Statement.{statement}
 use Rattle.synthesis.proofs.service.build.Tie as tie

@@ -1,0 +1,130 @@
+-- Questions 11 to 14 and 9, about a netlist file and what it is run with.
+use Prim.Native.Nat.{ℕ, zero, suc, _+_, _*_, _/_, _%_}
+use mathlib.Core.Bool.{Bool, false, _&&_, cond}
+use mathlib.Core.List.{List, [], _∷_}
+use lib.Dec.{leb, ltb, eqb}
+use lib.ListN.{length, getD, drop}
+use Rattle.fields.specs.Bounded.{all}
+use Rattle.fields.specs.Fields.{Item, Fields, fieldsOf}
+use Rattle.fields.specs.Header.{between, valueIn, framingNumber, contactsIn, contactsNumber, firstNo}
+use Rattle.netlist.specs.declared.Gate.{Gate}
+use Rattle.netlist.specs.declared.Pair.{Pair}
+use Rattle.netlist.specs.declared.Hold.{Hold}
+use Rattle.netlist.specs.declared.form.Form.{Form}
+use Rattle.netlist.specs.declared.form.Form.the-variants.{Formed, Unformed}
+use Rattle.netlist.specs.declared.wiring.Wiring.{Wiring}
+use Rattle.netlist.specs.declared.wiring.Wiring.the-variants.{Sound, Unsound}
+use Rattle.netlist.specs.declared.drive.Rails.{Rails}
+use Rattle.netlist.specs.declared.drive.Rails.the-variants.{Driven, Undriven}
+use Rattle.netlist.specs.declared.drive.Holds.{Holds}
+use Rattle.netlist.specs.declared.drive.Holds.the-variants.{Ordered, Disordered}
+use Rattle.netlist.specs.declared.drive.Room.{Room}
+use Rattle.netlist.specs.declared.drive.Room.the-variants.{Enough, Short}
+use Rattle.netlist.specs.Netlist.{Netlist, gateAt, pairAt, holdAt, gateLine, gatesOf, pairsOf}
+
+-- A field of a tag whose value is so many whole parts of a size.
+abbrev pub hasParts : ℕ → ℕ → ℕ → ℕ → Item → Bool
+hasParts tag size least most i =
+    eqb (i .tag) tag && eqb (length (i .value) % size) 0 && between least (length (i .value) / size) most
+
+unfoldable pub areParts : List Item → Bool
+areParts [] = false
+areParts (b ∷ []) = false
+areParts (b ∷ c ∷ []) = hasParts 4 5 0 10560 b && hasParts 5 4 1 8 c
+areParts (b ∷ c ∷ d ∷ is) = false
+
+-- 11. Does the file have whole fields of tags 1, 4, 5 in that order and no more, tag 1 as in question 2, tag 4 of 0 to 10,560
+-- whole gates, tag 5 of 1 to 8 whole outputs? No: 11.
+unfoldable pub formOf : Fields → Form
+formOf fs =
+    cond
+    (eqb (framingNumber (fs .framing)) 0 && eqb (contactsNumber (contactsIn (fs .items))) 0 && areParts (drop 1 (fs .items)))
+    (Formed (getD (valueIn (fs .items) 0) 0 0))
+    Unformed
+
+abbrev pub formNumber : Form → ℕ
+formNumber (Formed n) = 0
+formNumber Unformed = 11
+
+-- A gate on its own line: its kind is 0 or 1, and its sources are below.
+abbrev pub isGate : ℕ → Gate → Bool
+isGate line gate = leb (gate .kind) 1 && ltb (gate .left) line && ltb (gate .right) line
+
+-- An output of a netlist of so many lines: both its lines are in the netlist.
+abbrev pub isPair : ℕ → Pair → Bool
+isPair lines pair = ltb (pair .on) lines && ltb (pair .off) lines
+
+-- The gates' bytes, the first gate on line first.
+abbrev pub areGates : ℕ → List ℕ → Bool
+areGates first gates = all (length gates / 5) (λ g. isGate (first + g) (gateAt gates g))
+
+abbrev pub arePairs : ℕ → List ℕ → Bool
+arePairs lines pairs = all (length pairs / 4) (λ j. isPair lines (pairAt pairs j))
+
+-- 12. Is every kind 0 or 1, every source below its gate's own line, every output line in the netlist? No: 12. Asked of the
+-- gates' and the outputs' bytes.
+unfoldable pub isSound : ℕ → List ℕ → List ℕ → Bool
+isSound n gates pairs = areGates (gateLine n) gates && arePairs (gateLine n + length gates / 5) pairs
+
+abbrev pub wiringOf : ℕ → List ℕ → List ℕ → Wiring
+wiringOf n gates pairs = cond (isSound n gates pairs) Sound Unsound
+
+abbrev pub wiringNumber : Wiring → ℕ
+wiringNumber Sound = 0
+wiringNumber Unsound = 12
+
+abbrev pub isBit : List ℕ → ℕ → Bool
+isBit bytes i = leb (getD bytes i 0) 1
+
+-- 13. Are there 2n rail bytes, in line order, each 0 or 1? No: 13.
+abbrev pub railsOf : ℕ → List ℕ → Rails
+railsOf n rails = cond (eqb (length rails) (2 * n) && all (2 * n) (isBit rails)) Driven Undriven
+
+abbrev pub railsNumber : Rails → ℕ
+railsNumber Driven = 0
+railsNumber Undriven = 13
+
+-- The line of the hold before hold i; the first comes after line 1.
+abbrev pub lineBefore : List ℕ → ℕ → ℕ
+lineBefore holds zero = 1
+lineBefore holds (suc i) = holdAt holds i .line
+
+-- A hold on a netlist of so many lines, after a hold on line before.
+abbrev pub isHold : ℕ → ℕ → Hold → Bool
+isHold lines before hold = ltb before (hold .line) && ltb (hold .line) lines && leb (hold .value) 1
+
+abbrev pub areHolds : ℕ → List ℕ → Bool
+areHolds lines holds = all (length holds / 3) (λ i. isHold lines (lineBefore holds i) (holdAt holds i))
+
+-- 14. Are the holds whole, each naming a line from 2 up that is in the netlist, with value 0 or 1, lines strictly rising? No: 14.
+unfoldable pub areOrdered : ℕ → List ℕ → Bool
+areOrdered lines holds = eqb (length holds % 3) 0 && areHolds lines holds
+
+abbrev pub orderOf : ℕ → List ℕ → Holds
+orderOf lines holds = cond (areOrdered lines holds) Ordered Disordered
+
+abbrev pub holdsNumber : Holds → ℕ
+holdsNumber Ordered = 0
+holdsNumber Disordered = 14
+
+-- 9. Is a lent buffer long enough? No: 9.
+abbrev pub roomOf : ℕ → ℕ → Room
+roomOf wanted lent = cond (leb wanted lent) Enough Short
+
+abbrev pub roomNumber : Room → ℕ
+roomNumber Enough = 0
+roomNumber Short = 9
+
+-- The netlist that the fields hold.
+unfoldable pub netlistOf : List Item → Netlist
+netlistOf is =
+    record { contacts = getD (valueIn is 0) 0 0; gates = gatesOf (valueIn is 1); pairs = pairsOf (valueIn is 2) }
+
+-- Questions 11 and 12 about a netlist file.
+unfoldable pub netlistRefusal : List ℕ → ℕ
+netlistRefusal file =
+    let is = fieldsOf file .items in
+    firstNo
+    (formNumber (formOf (fieldsOf file))
+    ∷ wiringNumber (wiringOf (getD (valueIn is 0) 0 0) (valueIn is 1) (valueIn is 2))
+    ∷ [])

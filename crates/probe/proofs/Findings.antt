@@ -1,0 +1,61 @@
+-- A netlist's file, and line values behind it: how these are worked out, written and read again.
+use Prim.Native.Nat.{ℕ, _+_, _*_, _-_, _/_, _≤_}
+use native.Mathlib.Omega.{arith}
+use mathlib.Core.Path.{_≡_, refl, ap, _∙_}
+use mathlib.Core.List.{List, [], _∷_, _++_, append-assoc, append-nil}
+use lib.ListN.{length, take, drop, length-append, length-map, length-drop}
+use lib.Seq.{take-at, drop-at, drop-drop, take-length, drop-length}
+use Rattle.diagram.specs.Diagram.{inputOf}
+use Rattle.netlist.specs.declared.Hold.{Hold}
+use Rattle.netlist.specs.Netlist.{gateLine, gatesOf, holdAt, holdsOf}
+use Rattle.simulation.specs.Run.{holding, driversOf, workOut, valuesOf}
+use Rattle.simulation.specs.Service.{over}
+use Rattle.simulation.specs.Walk.{Ready}
+use Rattle.netlist.proofs.Lists.{length-gates}
+use Rattle.simulation.proofs.Runs.{length-run}
+use Rattle.rules.specs.Code.{codeRails}
+use Rattle.rules.proofs.Codes.{code-length}
+use Rattle.faults.specs.Betrayal.{stuckAt}
+use Rattle.probe.specs.Findings.{Showable}
+use Rattle.search.specs.Words.{netOf}
+use Rattle.probe.proofs.OneHold.{one-hold}
+
+module _ (file values buffer : List ℕ) where
+  abbrev rest : List ℕ
+  rest = drop (length file) buffer
+
+  -- Values written over the part of a buffer that lies behind the file.
+  pub written-behind : (a k : ℕ) {xs ys : List ℕ} → length file ≡ a → k ≡ length xs - a → a ≤ length buffer → length xs ≡ length buffer →
+      xs ≡ over file buffer → ys ≡ over values (take k (drop a xs)) →
+      take a xs ++ (ys ++ drop k (drop a xs)) ≡ over (file ++ values) buffer
+  written-behind a k {xs} {ys} l m h same e d =
+      let front : take a xs ≡ file = ap (take a) e ∙ take-at file rest a l in
+      let behind : drop a xs ≡ rest = ap (drop a) e ∙ drop-at file rest a l in
+      let whole : k ≡ length rest = omega (arith, length-drop (length file) buffer) in
+      rw (front, d, behind, whole, take-length rest, drop-length rest, append-nil, drop-drop, ← append-assoc, length-append)
+
+  pub read-behind : (a k : ℕ) → length file ≡ a → length values ≡ k → take k (drop a (over (file ++ values) buffer)) ≡ values
+  read-behind a k l m =
+      let past = drop (length (file ++ values)) buffer in
+      rw (append-assoc file values past, drop-at file (values ++ past) a l, take-at values past k m)
+
+module _ (n : ℕ) (gates hold : List ℕ) where
+  pub ready-at : {room : ℕ} {rails : List ℕ} → Showable n gates hold room → length rails ≡ 2 * n → Ready gates rails hold room
+  ready-at s l = record { few = omega arith; fits = omega arith; wired = rw l (s .wired); sorted = rw l (s .held) }
+
+  pub shown-at : {room : ℕ} (a : ℕ) {rails : List ℕ} → Showable n gates hold room → rails ≡ codeRails n (inputOf a) →
+      workOut (holding (holdsOf hold)) (driversOf rails (gatesOf gates)) (0 ∷ 1 ∷ []) ≡ stuckAt (netOf n gates []) (holdAt hold 0) a
+  unfolding stuckAt valuesOf
+  shown-at a s e = rw (one-hold hold (s .one), e)
+
+-- Line values go by the gates alone.
+pub lines-same : (n : ℕ) (gates pairs : List ℕ) (h : Hold) (a : ℕ) → stuckAt (netOf n gates []) h a ≡ stuckAt (netOf n gates pairs) h a
+unfolding stuckAt valuesOf
+lines-same n gates pairs h a = refl
+
+pub length-lines : (n : ℕ) (gates pairs : List ℕ) (h : Hold) (a : ℕ) →
+    length (stuckAt (netOf n gates pairs) h a) ≡ gateLine n + length gates / 5
+unfolding stuckAt valuesOf
+length-lines n gates pairs h a =
+    length-run (holding (h ∷ [])) (driversOf (codeRails n (inputOf a)) (gatesOf gates)) (0 ∷ 1 ∷ [])
+    ∙ simp (length-append, length-map, length-gates, code-length) (omega arith)

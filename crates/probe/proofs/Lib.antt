@@ -1,0 +1,6 @@
+pub mod OneHold
+pub mod Findings
+pub mod Probes
+pub mod Boards
+pub mod Outcomes
+pub mod Promises

@@ -1,0 +1,71 @@
+-- The service probe: what it returns, and the bytes that it leaves.
+use Prim.Native.Nat.{ℕ, zero, suc, _+_}
+use mathlib.Core.Bool.{_&&_, cond}
+use mathlib.Core.List.{List, [], _∷_, _++_}
+use lib.Dec.{eqb}
+use lib.ListN.{length, getD}
+use Rattle.fields.specs.Header.{firstNo}
+use Rattle.table.specs.Table.{tableRefusal}
+use Rattle.netlist.specs.declared.Hold.{Hold}
+use Rattle.netlist.specs.declared.drive.Holds.{Holds}
+use Rattle.netlist.specs.declared.drive.Holds.the-variants.{Ordered, Disordered}
+use Rattle.netlist.specs.Netlist.{Netlist, holdAt, lineCount, fileOf}
+use Rattle.netlist.specs.Questions.{areOrdered, holdsNumber, roomOf, roomNumber}
+use Rattle.simulation.specs.Service.{over}
+use Rattle.rules.specs.Board.{tableBoard}
+use Rattle.probe.specs.declared.service.Probed.{Probed}
+use Rattle.probe.specs.declared.service.Way.{Way}
+use Rattle.probe.specs.declared.service.Way.the-variants.{BothLow, BothHigh}
+use Rattle.faults.specs.Betrayal.{stuckAt, smallestInput, lowestIn}
+
+-- 14. Are the holds whole (just one for probe), naming a line from 2 up that is in the netlist, with value 0 or 1?
+abbrev pub oneHold : ℕ → List ℕ → Holds
+oneHold lines hold = cond (eqb (length hold) 3 && areOrdered lines hold) Ordered Disordered
+
+-- The table's questions, 14, then 9 for the netlist file followed by one byte a line.
+unfoldable pub probeRefusal : List ℕ → List ℕ → ℕ → ℕ
+probeRefusal table hold lent =
+    let net = tableBoard table in
+    firstNo
+    (tableRefusal table
+    ∷ holdsNumber (oneHold (lineCount net) hold)
+    ∷ roomNumber (roomOf (length (fileOf net) + lineCount net) lent)
+    ∷ [])
+
+-- The way a pair without a code shows: both low or both high.
+abbrev pub wayOf : ℕ → Way
+wayOf zero = BothLow
+wayOf (suc k) = BothHigh
+
+-- What probe returns where no question refuses: the lowest output whose pair shows no code among the line values at an input, and
+-- the way it shows.
+abbrev pub foundAt : Netlist → ℕ → List ℕ → Probed
+foundAt net input values =
+    let output = lowestIn net values in
+    record {
+      refusal = 0;
+      input = input;
+      output = output;
+      way = wayOf (getD values (getD (net .pairs) output (record { on = 0; off = 0 }) .on) 0);
+    }
+
+-- A refusal, with every other result zero.
+abbrev pub refusedProbe : ℕ → Probed
+refusedProbe number = record { refusal = number; input = 0; output = 0; way = BothLow }
+
+-- What probe returns, and what it leaves in the lent buffer.
+pub record Probing : Type 0 where
+  pub answer : Probed
+  pub buffer : List ℕ
+
+-- The smallest betraying input; the buffer then holds the file and the line values at that input with the line held. A refusal
+-- leaves the buffer as it came.
+abbrev pub probingOr : ℕ → Netlist → Hold → List ℕ → Probing
+probingOr zero net hold buffer =
+    let input = smallestInput net hold in
+    let values = stuckAt net hold input in
+    record { answer = foundAt net input values; buffer = over (fileOf net ++ values) buffer }
+probingOr (suc k) net hold buffer = record { answer = refusedProbe (suc k); buffer = buffer }
+
+unfoldable pub probingOf : List ℕ → List ℕ → List ℕ → Probing
+probingOf table hold buffer = probingOr (probeRefusal table hold (length buffer)) (tableBoard table) (holdAt hold 0) buffer

@@ -1,0 +1,6 @@
+// The service probe: the smallest input that betrays a stuck line.
+mod service;
+
+pub use service::Probed;
+pub use service::Way;
+pub use service::probe;

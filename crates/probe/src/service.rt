@@ -1,0 +1,167 @@
+// The service probe.
+use netlist::Holds;
+use netlist::Room;
+ghost use mathlib.Core.Path.{_≡_};
+ghost use mathlib.Core.Bool.{true};
+ghost use mathlib.Core.List.{[], _++_};
+ghost use Prim.Native.Nat.{_+_, _*_, _≤_};
+ghost use lib.ListN.{length, take};
+ghost use Rattle.fields.specs.Bounded.{any};
+ghost use Rattle.diagram.specs.Diagram.{inputOf};
+ghost use Rattle.netlist.specs.Netlist.{holdAt, pairsOf};
+ghost use Rattle.netlist.specs.Questions.{arePairs};
+ghost use Rattle.simulation.specs.Service.{over};
+ghost use Rattle.rules.specs.Code.{codeRails};
+ghost use Rattle.synthesis.specs.Service.{fileWith};
+ghost use Rattle.faults.specs.Betrayal.{stuckAt, noCode};
+ghost use Rattle.probe.specs.Service.{oneHold, wayOf, foundAt, refusedProbe, probingOf};
+ghost use Rattle.search.specs.Words.{netOf};
+ghost use Rattle.probe.specs.Findings.{Showable, Writable, Findable, Found};
+
+// How a pair without a code shows.
+pub enum Way {
+    BothLow,
+    BothHigh,
+}
+
+// What probe returns: the smallest betraying input, the lowest output that shows it there and the way it shows, or the refusal.
+pub struct Probed {
+    pub refusal: u32,
+    pub input: u32,
+    pub output: u32,
+    pub way: Way,
+}
+
+// A refusal, with every other result zero.
+fn refused(number: u32) -> Probed
+    ensures { λ r. ⌜ r ≡ refusedProbe number ⌝ }
+{
+    Probed {
+        refusal: number,
+        input: 0,
+        output: 0,
+        way: Way::BothLow,
+    }
+}
+
+// Question 14, for just one hold.
+fn ask_one_hold(lines: usize, hold: &[u8]) -> Holds
+    ensures { λ r. ⌜ r ≡ oneHold lines (now (hold .entry)) ⌝ }
+{
+    if hold.len() != 3 {
+        return Holds::Disordered;
+    }
+    netlist::ask_holds(lines, hold)
+}
+
+// The rails of a code input, in line order from the start of the array.
+fn code_rails(n: usize, input: u32) -> [u8; 24]
+    requires { ⌜ n ≤ 12 ⌝ }
+    ensures { λ r. ⌜ take (2 * n) r ≡ codeRails n (inputOf input) ⌝ }
+{
+    let mut rails = [0u8; 24];
+    for i in 0..n {
+        let on = ((input >> i) % 2) as u8;
+        let at = 2 * i;
+        rails[at] = on;
+        rails[at + 1] = 1 - on;
+    }
+    rails
+}
+
+// Writes every line's value at a code input with a line held.
+fn show_at(gates: &[u8], n: usize, hold: &[u8], input: u32, lines: &mut [u8])
+    requires { ⌜ Showable n (now gates) (now hold) (length (now lines)) ⌝ }
+    ensures { λ _. ⌜ now (lines .exit) ≡ over (stuckAt (netOf n (now (gates .entry)) []) (holdAt (now (hold .entry)) 0) input) (now (lines .entry)) ⌝ }
+{
+    let rails = code_rails(n, input);
+    let count = 2 * n;
+    simulation::work_out(gates, &rails[..count], hold, lines);
+}
+
+// The way in which a pair without a code shows, by its true line's value.
+fn way_of(value: u8) -> Way
+    ensures { λ r. ⌜ r ≡ wayOf value ⌝ }
+{
+    if value == 0 {
+        Way::BothLow
+    } else {
+        Way::BothHigh
+    }
+}
+
+// Writes the netlist's file and, behind it, every line's value at a code input with a line held, and returns where these start.
+fn write_at(
+    gates: &[u8],
+    pairs: &[u8],
+    n: usize,
+    hold: &[u8],
+    input: u32,
+    buffer: &mut [u8],
+) -> usize
+    requires { ⌜ Writable n (now gates) (now pairs) (now hold) (length (now buffer)) ⌝ }
+    ensures { λ r. ⌜ r ≡ 10 + length (now (gates .entry)) + length (now (pairs .entry)) ⌝ }
+    ensures { λ _. ⌜ now (buffer .exit) ≡ over (fileWith n (now (gates .entry)) (now (pairs .entry)) ++ stuckAt (netOf n (now (gates .entry)) (now (pairs .entry))) (holdAt (now (hold .entry)) 0) input) (now (buffer .entry)) ⌝ }
+{
+    synthesis::put_file(buffer, n, gates, pairs);
+    let start = 10 + gates.len() + pairs.len();
+    show_at(gates, n, hold, input, &mut buffer[start..]);
+    start
+}
+
+// Names the lowest output whose pair shows no code among the line values at an input, and the way it shows.
+fn name_output(pairs: &[u8], lines: &[u8], input: u32) -> Probed
+    requires { ⌜ (arePairs (length (now lines)) (now pairs) ≡ true) × (length (now pairs) ≤ 32) ⌝ }
+    requires { ⌜ any (length (pairsOf (now pairs))) (noCode (netOf 0 [] (now pairs)) (now lines)) ≡ true ⌝ }
+    ensures { λ r. ⌜ r ≡ foundAt (netOf 0 [] (now (pairs .entry))) input (now (lines .entry)) ⌝ }
+{
+    let output = search::lowest(pairs, lines);
+    let on = search::value_at(pairs, 4 * (output as usize), lines);
+    let way = way_of(on);
+    Probed {
+        refusal: 0,
+        input: input,
+        output: output,
+        way: way,
+    }
+}
+
+// Finds the smallest code input that betrays a held line, and writes the netlist's file and the line values there.
+fn find(gates: &[u8], pairs: &[u8], n: usize, hold: &[u8], buffer: &mut [u8]) -> Probed
+    requires { ⌜ Findable n (now gates) (now pairs) (now hold) (length (now buffer)) ⌝ }
+    ensures { λ r. ⌜ Found n (now (gates .entry)) (now (pairs .entry)) (now (hold .entry)) (now (buffer .entry)) r (now (buffer .exit)) ⌝ }
+{
+    let line = search::number_at(hold, 0);
+    let input = search::search(gates, pairs, n, line, hold[2]);
+    let start = write_at(gates, pairs, n, hold, input, buffer);
+    let end = start + (2 + 2 * n + gates.len() / 5);
+    name_output(pairs, &buffer[start..end], input)
+}
+
+// The smallest code input at which a held line makes some pair 00 or 11, the lowest such output and the way it shows; the
+// buffer then holds the netlist's file and the line values at that input with the line held. A refusal leaves it as it came.
+pub fn probe(table: &[u8], hold: &[u8], buffer: &mut [u8]) -> Probed
+    ensures { λ r. ⌜ r ≡ probingOf (now (table .entry)) (now (hold .entry)) (now (buffer .entry)) .answer ⌝ }
+    ensures { λ _. ⌜ now (buffer .exit) ≡ probingOf (now (table .entry)) (now (hold .entry)) (now (buffer .entry)) .buffer ⌝ }
+{
+    let read = table::read(table);
+    let refusal = read.refusal;
+    if refusal != 0 {
+        return refused(refusal);
+    }
+    let d = read.diagram;
+    let n = d.contacts;
+    let mut gates = [0u8; 52_800];
+    let mut pairs = [0u8; 32];
+    let made = synthesis::synthesise(d, &mut gates, &mut pairs);
+    let lines = 2 + 2 * n + made;
+    let Holds::Ordered = ask_one_hold(lines, hold) else {
+        return refused(14);
+    };
+    let gate_bytes = 5 * made;
+    let pair_bytes = 4 * d.outputs;
+    let Room::Enough = netlist::ask_room(10 + gate_bytes + pair_bytes + lines, buffer.len()) else {
+        return refused(9);
+    };
+    find(&gates[..gate_bytes], &pairs[..pair_bytes], n, hold, buffer)
+}

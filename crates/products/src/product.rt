@@ -1,0 +1,179 @@
+// The product of two matrices that are stored by rows of eight lines.
+use crate::cell;
+use crate::join;
+use crate::join::Joined;
+use rules::Entry;
+ghost use mathlib.Core.Path.{_≡_};
+ghost use mathlib.Core.Bool.{_&&_};
+ghost use Prim.Native.Nat.{_+_, _≤_, _<_};
+ghost use mathlib.Core.List.{[], _∷_};
+ghost use lib.ListN.{length, getD};
+ghost use lib.Seq.{sets};
+ghost use Rattle.fields.specs.Bounded.{any};
+ghost use Rattle.rules.specs.Blocks.{isAlways, entryAt, linesIn, productEntry, product};
+ghost use Rattle.products.specs.Written.{Written, Room, matrixOf, termsOf, rowOf, Collected, Stored, RowStored};
+
+// How many lines are among the terms, and the number of gates made so far.
+struct Found {
+    count: usize,
+    made: usize,
+}
+
+// Whether a term is always: both factors are.
+fn sure(left: Entry, right: Entry) -> bool
+    ensures { λ r. ⌜ r ≡ (isAlways left && isAlways right) ⌝ }
+{
+    match left {
+        Entry::Never => false,
+        Entry::Always => cell::is_always(right),
+        Entry::Line(_) => false,
+    }
+}
+
+// Whether some term of the entry in row u and column v is always.
+fn crosses(left: &[u16], right: &[u16], middle: usize, u: usize, v: usize) -> bool
+    requires { ⌜ (middle ≤ 8) × (u < 8) × (v < 8) × (64 ≤ length (now left)) × (64 ≤ length (now right)) ⌝ }
+    ensures { λ r. ⌜ r ≡ any middle (λ w. isAlways (entryAt (matrixOf (now (left .entry))) u w) && isAlways (entryAt (matrixOf (now (right .entry))) w v)) ⌝ }
+{
+    for w in 0..middle {
+        let factor = cell::cell(left, u, w);
+        if sure(factor, cell::cell(right, w, v)) {
+            return true;
+        }
+    }
+    false
+}
+
+// Adds a term to the lines collected so far, if it is a line.
+fn collect(entry: Entry, lines: &mut [u16], count: usize) -> usize
+    requires { ⌜ count < length (now lines) ⌝ }
+    ensures { λ r. ⌜ (r ≡ count + length (linesIn (entry ∷ []))) × (now (lines .exit) ≡ sets (now (lines .entry)) count (linesIn (entry ∷ []))) ⌝ }
+{
+    match entry {
+        Entry::Never => count,
+        Entry::Always => count,
+        Entry::Line(x) => {
+            lines[count] = x;
+            count + 1
+        }
+    }
+}
+
+// The terms of the entry in row u and column v; the lines among them go to `lines`, in sequence.
+fn terms(
+    left: &[u16],
+    right: &[u16],
+    middle: usize,
+    u: usize,
+    v: usize,
+    lines: &mut [u16],
+    out: &mut [u8],
+    first: usize,
+    made: usize,
+) -> Found
+    requires { ⌜ (middle ≤ 8) × (u < 8) × (v < 8) × (64 ≤ length (now left)) × (64 ≤ length (now right)) × (middle ≤ length (now lines)) ⌝ }
+    requires { ⌜ Room first made middle (now out) ⌝ }
+    ensures { λ r. ⌜ Written (termsOf middle (matrixOf (now (left .entry))) (matrixOf (now (right .entry))) u v) first made (now (out .entry)) (now (out .exit)) (termsOf middle (matrixOf (now (left .entry))) (matrixOf (now (right .entry))) u v (first + made) .1) (r .made) ⌝ }
+    ensures { λ r. ⌜ Collected (termsOf middle (matrixOf (now (left .entry))) (matrixOf (now (right .entry))) u v (first + made) .1) (now (lines .exit)) (r .count) ⌝ }
+{
+    let mut count = 0;
+    let mut total = made;
+    for w in 0..middle {
+        let factor = cell::cell(left, u, w);
+        let joined = join::term(factor, cell::cell(right, w, v), out, first, total);
+        total = joined.made;
+        let found = joined.entry;
+        count = collect(found, lines, count);
+    }
+    Found {
+        count: count,
+        made: total,
+    }
+}
+
+// The entry in row u and column v: always if a term is, else the OR tree of the terms that are lines.
+fn entry(
+    left: &[u16],
+    right: &[u16],
+    middle: usize,
+    u: usize,
+    v: usize,
+    out: &mut [u8],
+    first: usize,
+    made: usize,
+) -> Joined
+    requires { ⌜ (middle ≤ 8) × (u < 8) × (v < 8) × (64 ≤ length (now left)) × (64 ≤ length (now right)) ⌝ }
+    requires { ⌜ Room first made 15 (now out) ⌝ }
+    ensures { λ r. ⌜ Written (productEntry middle (matrixOf (now (left .entry))) (matrixOf (now (right .entry))) u v) first made (now (out .entry)) (now (out .exit)) (r .entry) (r .made) ⌝ }
+{
+    if crosses(left, right, middle, u, v) {
+        return Joined {
+            entry: Entry::Always,
+            made: made,
+        };
+    }
+    let mut lines = [0u16; 8];
+    let found = terms(left, right, middle, u, v, &mut lines, out, first, made);
+    if found.count == 0 {
+        return Joined {
+            entry: Entry::Never,
+            made: found.made,
+        };
+    }
+    let tree = join::or_tree(&lines, 0, found.count, out, first, found.made);
+    Joined {
+        entry: Entry::Line(tree.line),
+        made: tree.made,
+    }
+}
+
+// Row u of a product, its entries by column.
+fn row(
+    left: &[u16],
+    right: &[u16],
+    middle: usize,
+    columns: usize,
+    u: usize,
+    cells: &mut [u16],
+    out: &mut [u8],
+    first: usize,
+    made: usize,
+) -> usize
+    requires { ⌜ (middle ≤ 8) × (columns ≤ 8) × (u < 8) × (64 ≤ length (now left)) × (64 ≤ length (now right)) × (64 ≤ length (now cells)) ⌝ }
+    requires { ⌜ (2 ≤ first) × Room first made 120 (now out) ⌝ }
+    ensures { λ r. ⌜ Written (rowOf middle (matrixOf (now (left .entry))) (matrixOf (now (right .entry))) columns u) first made (now (out .entry)) (now (out .exit)) (rowOf middle (matrixOf (now (left .entry))) (matrixOf (now (right .entry))) columns u (first + made) .1) r ⌝ }
+    ensures { λ r. ⌜ RowStored (now (cells .entry)) (now (cells .exit)) u columns (λ v. getD (rowOf middle (matrixOf (now (left .entry))) (matrixOf (now (right .entry))) columns u (first + made) .1) v Entry.Never) ⌝ }
+{
+    let mut total = made;
+    for v in 0..columns {
+        let joined = entry(left, right, middle, u, v, out, first, total);
+        let found = joined.entry;
+        cells[8 * u + v] = cell::line_of(found);
+        total = joined.made;
+    }
+    total
+}
+
+// A product, row by row; its gates follow the `made` ones, and its matrix goes to the cells.
+pub fn multiply(
+    left: &[u16],
+    right: &[u16],
+    rows: usize,
+    middle: usize,
+    columns: usize,
+    cells: &mut [u16],
+    out: &mut [u8],
+    first: usize,
+    made: usize,
+) -> usize
+    requires { ⌜ (rows ≤ 8) × (middle ≤ 8) × (columns ≤ 8) × (64 ≤ length (now left)) × (64 ≤ length (now right)) × (64 ≤ length (now cells)) ⌝ }
+    requires { ⌜ (2 ≤ first) × Room first made 960 (now out) ⌝ }
+    ensures { λ r. ⌜ Written (product rows middle columns (matrixOf (now (left .entry))) (matrixOf (now (right .entry)))) first made (now (out .entry)) (now (out .exit)) (product rows middle columns (matrixOf (now (left .entry))) (matrixOf (now (right .entry))) (first + made) .1) r ⌝ }
+    ensures { λ r. ⌜ Stored (now (cells .exit)) (entryAt (product rows middle columns (matrixOf (now (left .entry))) (matrixOf (now (right .entry))) (first + made) .1)) rows columns ⌝ }
+{
+    let mut total = made;
+    for u in 0..rows {
+        total = row(left, right, middle, columns, u, cells, out, first, total);
+    }
+    total
+}

@@ -1,0 +1,143 @@
+-- The gates and entries of a block: their sources lie below them, and each round of the cut makes them 1 + b deeper, where no
+-- level has more than 2 ^ b nodes.
+use Prim.Native.Nat.{ℕ, suc, _+_, _*_, _^_, _≤_, _<_, max}
+use native.Mathlib.Nat.{mul-le-mul-right}
+use native.Mathlib.Omega.{arith}
+use mathlib.Core.Path.{_≡_}
+use mathlib.Core.Bool.{Bool, true, false, cond}
+use mathlib.Core.List.{List}
+use lib.Dec.{eqb}
+use lib.ListN.{length, length-take, length-drop}
+use Rattle.diagram.specs.declared.Diagram.{Diagram}
+use Rattle.diagram.specs.Diagram.{width, edge}
+use Rattle.netlist.specs.Netlist.{gateLine}
+use Rattle.rules.specs.declared.Entry.{Entry}
+use Rattle.rules.specs.declared.Entry.the-variants.{Never, Always, Line}
+use Rattle.rules.specs.Make.{Make, return, sequence}
+use Rattle.rules.specs.Blocks.{Cut, one, two, size, cut, Matrix, entryAt, levelEntry, term, orTree, joined, productEntry, product, levelMatrix, block}
+use Rattle.rules.proofs.Cuts.{size-cut}
+use Rattle.rules.proofs.Heights.{height, height-cut}
+use Rattle.rules.proofs.Every.{Every, none, more, every-map, every-at, every-take, every-drop}
+use Rattle.rules.proofs.Entries.{OfLine, never, always, line, of-map, of-lines, lines-few, entry-either}
+use Rattle.rules.proofs.Lays.{Lies, Lays, lays-return, lays-bind, lays-weaken, lays-gate, lays-sequence}
+
+-- A matrix whose lines lie below line next and have at most depth e.
+abbrev pub Table : (ℕ → ℕ) → ℕ → ℕ → Matrix → Type 0
+Table δ e next m = Every (Every (OfLine (Lies δ e next))) m
+
+-- What holds for a line and a depth, holds for later lines and greater depths.
+module _ {δ : ℕ → ℕ} {e f n k : ℕ} (deeper : e ≤ f) (later : n ≤ k) where
+  lines-on : {ls : List ℕ} → Every (Lies δ e n) ls → Every (Lies δ f k) ls
+  lines-on all = every-map (λ x l. omega arith) all
+
+  entry-on : {t : Entry} → OfLine (Lies δ e n) t → OfLine (Lies δ f k) t
+  entry-on o = of-map (λ x l. omega arith) o
+
+  row-on : {ts : List Entry} → Every (OfLine (Lies δ e n)) ts → Every (OfLine (Lies δ f k)) ts
+  row-on all = every-map (λ t o. entry-on o) all
+
+  pub table-on : {m : Matrix} → Table δ e n m → Table δ f k m
+  table-on all = every-map (λ ts r. row-on r) all
+
+pub table-at : {δ : ℕ → ℕ} {e next : ℕ} {m : Matrix} → Table δ e next m → (u v : ℕ) →
+    OfLine (Lies δ e next) (entryAt m u v)
+table-at all u v = every-at (every-at all none u) never v
+
+module _ {δ : ℕ → ℕ} {most : ℕ} where
+  term-lays : {e next : ℕ} {x y : Entry} → OfLine (Lies δ e next) x → OfLine (Lies δ e next) y → suc e ≤ most →
+      Lays δ most (term x y) next (λ end t. OfLine (Lies δ (suc e) end) t)
+  unfolding term
+  term-lays never y fits = lays-return never
+  term-lays always y fits = lays-return (entry-on (omega arith) (omega arith) y)
+  term-lays (line a) never fits = lays-return never
+  term-lays (line a) always fits = lays-return (line (omega arith))
+  term-lays (line a) (line b) fits = lays-bind (lays-gate (omega arith) a b fits) (λ mid x h l. lays-return (line l))
+
+  or-lays : {e next : ℕ} (c : Cut) {ls : List ℕ} → Every (Lies δ e next) ls → length ls ≡ size c → e + height c ≤ most →
+      Lays δ most (orTree c ls) next (λ end x. Lies δ (e + height c) end x)
+  unfolding orTree
+  or-lays one none p fits = absurd (omega arith)
+  or-lays one (more s all) p fits = lays-return (omega arith)
+  or-lays {e} (two a b) {ls} all p fits =
+      lays-bind (or-lays a (every-take (size a) all) (omega (arith, length-take (size a) ls)) (omega arith)) (λ mid x h lx.
+      lays-bind
+      (or-lays b (lines-on {f = e} (omega arith) h (every-drop (size a) all)) (omega (arith, length-drop (size a) ls))
+      (omega arith)) (λ end y h' ly.
+      lays-weaken
+      (lays-gate {e = e + max (height a) (height b)} (omega arith) (omega arith) (omega arith) (omega arith))
+      (λ n z h'' l. omega arith)))
+
+  joined-lays : {e next : ℕ} (b : ℕ) {ls : List ℕ} → Every (Lies δ e next) ls → length ls ≤ 2 ^ b → e + b ≤ most →
+      Lays δ most (joined ls) next (λ end t. OfLine (Lies δ (e + b) end) t)
+  unfolding joined
+  joined-lays b none few fits = lays-return never
+  joined-lays b (more {xs = ls} s all) few fits =
+      let count = suc (length ls) in
+      let whole = size-cut count (omega arith) in
+      let low = height-cut count b few in
+      lays-bind (or-lays (cut count) (more s all) (omega arith) (omega arith)) (λ mid y h l.
+      lays-return (line (omega arith)))
+
+  entry-lays : {e next : ℕ} (b middle : ℕ) (left right : Matrix) → Table δ e next left → Table δ e next right →
+      middle ≤ 2 ^ b → suc e + b ≤ most → (u v : ℕ) →
+      Lays δ most (productEntry middle left right u v) next (λ end t. OfLine (Lies δ (suc e + b) end) t)
+  entry-lays {e} {next} b middle left right tl tr few fits u v =
+      entry-either (λ m. Lays δ most m next (λ end t. OfLine (Lies δ (suc e + b) end) t)) middle left right u v
+      (lays-return always)
+      (lays-bind
+      (lays-sequence (λ n k t h o. entry-on (omega arith) h o) _ middle 0 next (λ w n h.
+      term-lays (entry-on (omega arith) h (table-at tl u w)) (entry-on (omega arith) h (table-at tr w v)) (omega arith)))
+      (λ mid ts h (all, p). joined-lays b (of-lines all) (omega (arith, lines-few ts)) fits))
+
+  -- A matrix by rows.
+  table-lays : (e next : ℕ) (f : ℕ → ℕ → Make Entry) (rows columns : ℕ) →
+      ((u v n : ℕ) → next ≤ n → Lays δ most (f u v) n (λ end t. OfLine (Lies δ e end) t)) →
+      Lays δ most (sequence (λ u. sequence (f u) columns 0) rows 0) next (λ end m. Table δ e end m)
+  table-lays e next f rows columns o =
+      lays-weaken
+      (lays-sequence (λ n k r h all. row-on (omega arith) h all) _ rows 0 next (λ u n h.
+      lays-weaken
+      (lays-sequence (λ n k t h' l. entry-on (omega arith) h' l) (f u) columns 0 n (λ v n' h'. o u v n' (omega arith)))
+      (λ end r h' (all, p). all)))
+      (λ end m h (all, p). all)
+
+  product-lays : {e next : ℕ} (b rows middle columns : ℕ) (left right : Matrix) → Table δ e next left →
+      Table δ e next right → middle ≤ 2 ^ b → suc e + b ≤ most →
+      Lays δ most (product rows middle columns left right) next (λ end m. Table δ (suc e + b) end m)
+  unfolding product
+  product-lays {e} {next} b rows middle columns left right tl tr few fits =
+      table-lays (suc e + b) next (productEntry middle left right) rows columns (λ u v n h.
+      entry-lays b middle left right (table-on (omega arith) h tl) (table-on (omega arith) h tr) few fits u v)
+
+-- Where rails have no depth, and no level has more than 2 ^ b nodes.
+module _ {δ : ℕ → ℕ} (d : Diagram) (flat : (x : ℕ) → x < gateLine (d .contacts) → δ x ≡ 0) where
+  level-lies : (next l u v : ℕ) → l < d .contacts → gateLine (d .contacts) ≤ next →
+      OfLine (Lies δ 0 next) (levelEntry d l u v)
+  level-lies next l u v h high = go (eqb (edge d l u true) v) (eqb (edge d l u false) v)
+    where
+      go : (p q : Bool) →
+          OfLine (Lies δ 0 next) (cond p (cond q Always (Line (2 + 2 * l))) (cond q (Line (3 + 2 * l)) Never))
+      go true true = always
+      go true false = line {x = 2 + 2 * l} (omega (arith, flat (2 + 2 * l) (omega arith)))
+      go false true = line {x = 3 + 2 * l} (omega (arith, flat (3 + 2 * l) (omega arith)))
+      go false false = never
+
+  module _ (most b : ℕ) (narrow : (l : ℕ) → l ≤ d .contacts → width d l ≤ 2 ^ b) where
+    pub block-lays : (c : Cut) (l next : ℕ) → l + size c ≤ d .contacts → gateLine (d .contacts) ≤ next →
+        height c * suc b ≤ most → Lays δ most (block d c l) next (λ end m. Table δ (height c * suc b) end m)
+    unfolding block levelMatrix
+    block-lays one l next h high fits =
+        lays-weaken
+        (table-lays 0 next (λ u v. return (levelEntry d l u v)) (width d l) (width d (suc l)) (λ u v n h'.
+        lays-return (level-lies n l u v (omega arith) (omega arith))))
+        (λ end m h' t. table-on (omega arith) (omega arith) t)
+    block-lays (two a c) l next h high fits =
+        let e = max (height a) (height c) * suc b in
+        let ea : height a * suc b ≤ e = mul-le-mul-right (suc b) (omega arith) in
+        let ec : height c * suc b ≤ e = mul-le-mul-right (suc b) (omega arith) in
+        lays-bind (block-lays a l next (omega arith) high (omega arith)) (λ mid left h' tl.
+        lays-bind (block-lays c (l + size a) mid (omega arith) (omega arith) (omega arith)) (λ end right h'' tr.
+        lays-weaken
+        (product-lays {e = e} b (width d l) (width d (l + size a)) (width d (l + size a + size c)) left right
+        (table-on ea h'' tl) (table-on ec (omega arith) tr) (narrow (l + size a) (omega arith)) (omega arith))
+        (λ n m h3 t. table-on (omega arith) (omega arith) t)))

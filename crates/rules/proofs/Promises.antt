@@ -1,0 +1,94 @@
+-- Demand 2.
+use Prim.Native.Nat.{ℕ, _≤_}
+use native.Mathlib.Omega.{arith}
+use mathlib.Core.Path.{sym, _∙_}
+use mathlib.Core.List.{List, []}
+use Rattle.diagram.specs.declared.Diagram.{Diagram}
+use Rattle.diagram.specs.Diagram.{Input}
+use Rattle.table.proofs.Accepted.{accepted}
+use Rattle.table.proofs.Encode.{bytes-are}
+use Rattle.table.proofs.SameFile.{same-file}
+use Rattle.diagram.proofs.Unique.{Reduced}
+use Rattle.netlist.proofs.Files.{reads-back, file-determines, file-accepted}
+use Rattle.netlist.proofs.Tests.{Bounds, Wired, Shown}
+use Rattle.simulation.specs.Run.{held}
+use Rattle.rules.specs.Board.{boardOf, tableBoard}
+use Rattle.table.specs.Promises.{Accepted}
+use Rattle.rules.specs.Promises.{WithinFormulas, BuiltFilesPass, RightCode, DifferentNetlists}
+use Rattle.table.specs.Table.{diagramIn}
+use Rattle.rules.proofs.Bounds.{gates-within, gates-most, sized-narrow}
+use Rattle.rules.proofs.Depths.{depth-bound}
+use Rattle.rules.proofs.FileBytes.{file-bytes}
+use Rattle.rules.proofs.Held.{shown, shown-low, shown-high, shown-bits, shown-on, shown-off, shown-gates}
+use Rattle.rules.proofs.Injective.{same-contacts, same-outputs, injective}
+use Rattle.rules.proofs.Models.{Model, model-right}
+use Rattle.rules.proofs.Pairs.{pairs-length}
+use Rattle.rules.proofs.Shown.{board-on, board-off}
+use Rattle.rules.proofs.Wired.{gates-on, pairs-wired}
+
+pub within-formulas : WithinFormulas
+within-formulas table (bytes, all) =
+    let d = diagramIn table in
+    let a = accepted table all in
+    let some = a .sized .contacts .0 in
+    (gates-within d some, gates-most d some (a .sized .contacts .1) (sized-narrow d (a .sized)), depth-bound d some)
+
+-- With nothing held a run is a model of the board.
+pub run-model : (d : Diagram) (some : 1 ≤ d .contacts) (x : Input) → Model (boardOf d) x (shown d some x [])
+unfolding held boardOf
+run-model d some x =
+    record {
+      low = shown-low d some x [];
+      high = shown-high d some x [];
+      bits = shown-bits d some x [] tt;
+      on = shown-on d some x [];
+      off = shown-off d some x [];
+      gates = shown-gates d some x [];
+    }
+
+pub right-code : RightCode
+unfolding boardOf
+right-code table (bytes, all) x j h =
+    let d = diagramIn table in
+    let a = accepted table all in
+    let some = a .sized .contacts .0 in
+    let right = model-right d x (shown d some x []) (run-model d some x) (a .ranged) some j h in
+    (board-on d _ j h ∙ right .0, board-off d _ j h ∙ right .1)
+
+pub built-files-pass : BuiltFilesPass
+unfolding boardOf
+built-files-pass table (bytes, all) =
+    let d = diagramIn table in
+    let net = tableBoard table in
+    let a = accepted table all in
+    let s = a .sized in
+    let some = s .contacts .0 in
+    let p = pairs-length d in
+    let bounds : Bounds net =
+    record {
+      least = some;
+      most = s .contacts .1;
+      gates = gates-most d some (s .contacts .1) (sized-narrow d s);
+      some = omega (arith, s .outputs);
+      few = omega (arith, s .outputs);
+    } in
+    let wired : Wired net = λ g other h. gates-on d some g other h in
+    let shown : Shown net = λ j other h. let w = pairs-wired d some j other (omega arith) in record { on = w .0; off = w .1 } in
+    (file-bytes net bounds wired shown, file-accepted net bounds wired shown, reads-back net)
+
+-- The diagram of an accepted table passes questions 5 to 7.
+reduced : (table : List ℕ) → Accepted table → Reduced (diagramIn table)
+reduced table (bytes, all) =
+    let a = accepted table all in
+    record { ranged = a .ranged; differing = a .differing; counted = a .counted }
+
+pub different-netlists : DifferentNetlists
+different-netlists a b (abytes, ayes) (bbytes, byes) e =
+    let d = diagramIn a in
+    let f = diagramIn b in
+    let one = file-determines (tableBoard a) (tableBoard b) e in
+    let some = accepted a ayes .sized .contacts .0 in
+    let same = injective d f one (reduced a (abytes, ayes)) (reduced b (bbytes, byes)) some
+    (λ x. (shown d some x [], run-model d some x)) in
+    sym (bytes-are a (accepted a ayes) abytes) ∙ same-file d f (same-contacts d f one) (same-outputs d f one) same
+    ∙ bytes-are b (accepted b byes) bbytes

@@ -1,0 +1,44 @@
+-- The bytes of output j's pair among those that a run shows.
+use Prim.Native.Nat.{ℕ, zero, suc, _+_, _*_, _<_}
+use native.Mathlib.Nat.{not-suc-le-zero, le-of-suc-le-suc}
+use native.Mathlib.Omega.{arith}
+use mathlib.Core.Path.{_≡_, refl, ap, _∙_}
+use mathlib.Core.List.{List, [], _∷_, flatMap}
+use lib.ListN.{length, getD}
+use Rattle.diagram.specs.declared.Diagram.{Diagram}
+use Rattle.netlist.specs.declared.Pair.{Pair}
+use Rattle.simulation.specs.Run.{shownOf, shownBy}
+use Rattle.rules.specs.Board.{boardOf}
+use Rattle.rules.proofs.Pairs.{pair, pairs-length, pairs-at}
+
+module _ (vs : List ℕ) (none : Pair) where
+  pub shows-on : (pairs : List Pair) (j : ℕ) → j < length pairs →
+      getD (shownOf pairs vs) (2 * j) 0 ≡ getD vs (getD pairs j none .on) 0
+  unfolding shownOf flatMap
+  shows-on [] j h = absurd (not-suc-le-zero h)
+  shows-on (p ∷ pairs) zero h = refl
+  shows-on (p ∷ pairs) (suc j) h =
+      let next : 2 * suc j ≡ suc (suc (2 * j)) = omega arith in
+      rw next (shows-on pairs j (le-of-suc-le-suc h))
+
+  pub shows-off : (pairs : List Pair) (j : ℕ) → j < length pairs →
+      getD (shownOf pairs vs) (2 * j + 1) 0 ≡ getD vs (getD pairs j none .off) 0
+  unfolding shownOf flatMap
+  shows-off [] j h = absurd (not-suc-le-zero h)
+  shows-off (p ∷ pairs) zero h = refl
+  shows-off (p ∷ pairs) (suc j) h =
+      let next : 2 * suc j + 1 ≡ suc (suc (2 * j + 1)) = omega arith in
+      rw next (shows-off pairs j (le-of-suc-le-suc h))
+
+-- Of a board: the values of the output's lines.
+module _ (d : Diagram) (vs : List ℕ) (j : ℕ) (h : j < d .outputs) where
+  inside : j < length (boardOf d .pairs)
+  inside = rw (pairs-length d) h
+
+  pub board-on : getD (shownBy (boardOf d) vs) (2 * j) 0 ≡ getD vs (pair d j .on) 0
+  board-on =
+      shows-on vs (pair d j) (boardOf d .pairs) j inside ∙ ap (λ (p : Pair). getD vs (p .on) 0) (pairs-at d j (pair d j) h)
+
+  pub board-off : getD (shownBy (boardOf d) vs) (2 * j + 1) 0 ≡ getD vs (pair d j .off) 0
+  board-off =
+      shows-off vs (pair d j) (boardOf d .pairs) j inside ∙ ap (λ (p : Pair). getD vs (p .off) 0) (pairs-at d j (pair d j) h)

@@ -1,0 +1,10 @@
+pub mod Bits
+pub mod Rails
+pub mod Trailing
+pub mod Found
+pub mod Lines
+pub mod Sources
+pub mod GateWords
+pub mod Agree
+pub mod Masks
+pub mod CodeRails

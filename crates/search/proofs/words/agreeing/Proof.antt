@@ -1,0 +1,90 @@
+-- `faults::words::agreeing` meets its contract. The loop's invariant: at each bit the mask tells whether an output before j agrees.
+use borrow.Author.Needs.{needs}
+use Prim.Native.Nat.{ℕ, _-_, _≤_, _<_}
+use native.Mathlib.Omega.{arith}
+use mathlib.Core.Path.{_≡_}
+use mathlib.Core.List.{[]}
+use lib.ListN.{length}
+use Rattle.fields.specs.Bounded.{any}
+use Rattle.diagram.specs.Diagram.{bit}
+use Rattle.netlist.specs.Netlist.{pairAt, pairsOf}
+use Rattle.netlist.proofs.Lists.{length-pairs}
+use Rattle.netlist.proofs.Tests.{PairIn, pairs-at}
+use Rattle.faults.specs.Betrayal.{noCode}
+use Rattle.search.specs.Words.{bitOf, bitsOf, netOf}
+use Rattle.search.proofs.Agree.{agree-more}
+use Rattle.search.proofs.Bits.{bit-zero}
+use Rattle.search.proofs.words.agreeing.Statement.{statement}
+use Rattle.search.proofs.words.agreeing.Tie as tie
+
+abbrev Inv-loop : tie.InvT-loop
+Inv-loop pairs words mask₀ j₀ j-end mask j =
+    (j ≤ j-end) × ((k : ℕ) → k < 64 → bitOf k mask ≡ bit (any j (noCode (netOf 0 [] pairs) (bitsOf k words))))
+
+abbrev μ-loop : tie.MeasureT-loop
+μ-loop pairs words mask₀ j₀ j-end mask j = j-end - j
+
+loop-holds : tie.Need-loop-holds Inv-loop μ-loop
+unfolding any
+loop-holds c = (omega arith, λ k l. bit-zero k)
+
+mul-at : tie.Need-mul-at Inv-loop μ-loop
+mul-at c = search needs
+
+-- The output's lines are in range.
+low : (c : tie.In-loop Inv-loop μ-loop) →
+    let start = c .before .before .before .before in
+    PairIn (length (start .args .words .now)) (pairAt (start .args .pairs .now) (c .before .loop .j))
+low c =
+    let start = c .before .before .before .before in
+    pairs-at (length (start .args .words .now)) (start .args .pairs .now) (start .pre) (c .before .loop .j) (omega arith)
+
+word-at-requires : tie.Need-word-at-requires Inv-loop μ-loop
+word-at-requires c κs = let on = low c in (omega arith, omega arith)
+
+add-word-at : tie.Need-add-word-at Inv-loop μ-loop
+add-word-at c = search needs
+
+word-at-requires-2 : tie.Need-word-at-requires-2 Inv-loop μ-loop
+word-at-requires-2 c κs = let on = low (c .before) in (omega arith, omega arith)
+
+add-j : tie.Need-add-j Inv-loop μ-loop
+add-j c = search needs
+
+loop-less : tie.Need-loop-less Inv-loop μ-loop
+loop-less c = search needs
+
+loop-again : tie.Need-loop-again Inv-loop μ-loop
+loop-again c =
+    let here = c .before .before .before in
+    let start = here .before .before .before in (
+      omega arith,
+      λ k l.
+          agree-more k (start .args .pairs .now) (start .args .words .now) (here .loop .j) (here .loop .mask) _ _ l (omega arith)
+          (c .before .word-at .ensures)
+          (c .word-at2 .ensures)
+          (here .loop .inv .1 k l),
+    )
+
+returns : tie.Need-returns Inv-loop μ-loop
+returns c =
+    let here = c .before in
+    let pairs = here .before .before .before .args .pairs .now in
+    let e : here .loop .j ≡ length (pairsOf pairs) = omega (arith, length-pairs pairs) in
+    λ k l. rw e at (here .loop .inv .1 k l)
+
+pub agreeing-spec : {M : Type 1} → statement M
+agreeing-spec =
+    tie.close
+    (tie.spec
+    Inv-loop
+    μ-loop
+    loop-holds
+    mul-at
+    word-at-requires
+    add-word-at
+    word-at-requires-2
+    add-j
+    loop-less
+    loop-again
+    returns)

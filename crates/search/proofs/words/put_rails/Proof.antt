@@ -1,0 +1,112 @@
+-- `faults::words::put_rails` meets its contract. The loop's invariant: at each bit the lines below contact i's rails obey the run rule.
+use borrow.Author.Needs.{needs}
+use Prim.Native.Nat.{ℕ, _+_, _-_, _≤_, _<_}
+use native.Mathlib.Omega.{arith}
+use mathlib.Core.Path.{_≡_, refl}
+use mathlib.Core.List.{map}
+use lib.ListN.{length, take, length-set}
+use Rattle.diagram.specs.Diagram.{inputOf}
+use Rattle.netlist.specs.Netlist.{gateLine}
+use Rattle.simulation.specs.Run.{rail, workOut}
+use Rattle.rules.specs.Code.{codeRails}
+use Rattle.search.specs.Words.{bitsOf, ruleOf}
+use Rattle.search.proofs.Lines.{rails-more}
+use Rattle.search.proofs.words.put_rails.Statement.{statement}
+use Rattle.search.proofs.words.put_rails.Tie as tie
+
+abbrev Inv-loop : tie.InvT-loop
+Inv-loop n base line word words₀ i₀ words i =
+    (i ≤ n)
+    × (length words ≡ length words₀)
+    × ((k : ℕ) → k < 64 →
+    bitsOf k (take (gateLine i) words)
+    ≡ workOut (ruleOf line word k) (map rail (codeRails i (inputOf (base + k)))) (bitsOf k (take 2 words₀)))
+
+abbrev μ-loop : tie.MeasureT-loop
+μ-loop n base line word words₀ i₀ words i = n - i
+
+loop-holds : tie.Need-loop-holds Inv-loop μ-loop
+unfolding codeRails workOut
+loop-holds c = (omega arith, refl, λ k l. refl)
+
+mul-at : tie.Need-mul-at Inv-loop μ-loop
+mul-at c = search needs
+
+add-at : tie.Need-add-at Inv-loop μ-loop
+add-at c = search needs
+
+rail-word-requires : tie.Need-rail-word-requires Inv-loop μ-loop
+rail-word-requires c κs = search needs
+
+show-word-requires : tie.Need-show-word-requires Inv-loop μ-loop
+show-word-requires c κs = search needs
+
+mul-words : tie.Need-mul-words Inv-loop μ-loop
+mul-words c = search needs
+
+slice-write-words : tie.Need-slice-write-words Inv-loop μ-loop
+slice-write-words c = omega arith
+
+add-next : tie.Need-add-next Inv-loop μ-loop
+add-next c = search needs
+
+show-word-requires-2 : tie.Need-show-word-requires-2 Inv-loop μ-loop
+show-word-requires-2 c κs = search needs
+
+mul-words-2 : tie.Need-mul-words-2 Inv-loop μ-loop
+mul-words-2 c = search needs
+
+slice-write-words-2 : tie.Need-slice-write-words-2 Inv-loop μ-loop
+slice-write-words-2 c = simp length-set (omega arith)
+
+add-i : tie.Need-add-i Inv-loop μ-loop
+add-i c = search needs
+
+loop-less : tie.Need-loop-less Inv-loop μ-loop
+loop-less c = search needs
+
+loop-again : tie.Need-loop-again Inv-loop μ-loop
+loop-again c =
+    let turn = c .before .before in
+    let here = turn .before .before in (
+      omega arith,
+      simp length-set (here .loop .inv .1),
+      λ k l.
+          rails-more k _ _ (here .loop .words) _ (inputOf (here .before .before .args .base + k)) (here .loop .i) _ _ _ (omega arith) l
+          (turn .rail-word .ensures k l)
+          (c .before .show-word .ensures)
+          (c .show-word2 .ensures)
+          (here .loop .inv .2 k l),
+    )
+
+same-length : tie.Need-same-length Inv-loop μ-loop
+same-length c = search needs
+
+returns : tie.Need-returns Inv-loop μ-loop
+returns c =
+    let here = c .before in
+    let e : here .loop .i ≡ here .before .before .args .n = omega arith in
+    λ k l. rw e at (here .loop .inv .2 k l)
+
+pub put-rails-spec : {M : Type 1} → statement M
+put-rails-spec =
+    tie.close
+    (tie.spec
+    Inv-loop
+    μ-loop
+    loop-holds
+    mul-at
+    add-at
+    rail-word-requires
+    show-word-requires
+    mul-words
+    slice-write-words
+    add-next
+    show-word-requires-2
+    mul-words-2
+    slice-write-words-2
+    add-i
+    loop-less
+    loop-again
+    same-length
+    returns)

@@ -1,0 +1,122 @@
+-- `faults::words::take_sources` meets its contract. The loop's invariant: the sources of the gates before gate g are written.
+use borrow.Author.Needs.{needs}
+use Prim.Native.Nat.{_+_, _-_, _/_, _≤_}
+use native.Mathlib.Omega.{arith}
+use mathlib.Core.Path.{_≡_, refl, ap, _∙_}
+use lib.ListN.{length, length-set}
+use Rattle.search.specs.Words.{heldWord, Sourced}
+use Rattle.search.proofs.Sources.{sources-more}
+use Rattle.search.proofs.words.take_sources.Statement.{statement}
+use Rattle.search.proofs.words.take_sources.Tie as tie
+
+abbrev Inv-loop : tie.InvT-loop
+Inv-loop gates first line value sources₀ g₀ g-end sources g =
+    (g ≤ g-end) × (length sources ≡ length sources₀) × Sourced first line value g gates sources
+
+abbrev μ-loop : tie.MeasureT-loop
+μ-loop gates first line value sources₀ g₀ g-end sources g = g-end - g
+
+loop-holds : tie.Need-loop-holds Inv-loop μ-loop
+loop-holds c =
+    (omega arith, refl, record { room = omega arith; left = λ g l. absurd (omega arith); right = λ g l. absurd (omega arith) })
+
+mul-from : tie.Need-mul-from Inv-loop μ-loop
+mul-from c = search needs
+
+mul-to : tie.Need-mul-to Inv-loop μ-loop
+mul-to c = search needs
+
+add-show-source : tie.Need-add-show-source Inv-loop μ-loop
+add-show-source c = search needs
+
+add-source-at : tie.Need-add-source-at Inv-loop μ-loop
+add-source-at c = search needs
+
+source-at-requires : tie.Need-source-at-requires Inv-loop μ-loop
+source-at-requires c κs = omega arith
+
+show-source-requires : tie.Need-show-source-requires Inv-loop μ-loop
+show-source-requires c κs = search needs
+
+mul-sources : tie.Need-mul-sources Inv-loop μ-loop
+mul-sources c = search needs
+
+slice-write-sources : tie.Need-slice-write-sources Inv-loop μ-loop
+slice-write-sources c = omega arith
+
+add-show-source-2 : tie.Need-add-show-source-2 Inv-loop μ-loop
+add-show-source-2 c = search needs
+
+add-source-at-2 : tie.Need-add-source-at-2 Inv-loop μ-loop
+add-source-at-2 c = search needs
+
+source-at-requires-2 : tie.Need-source-at-requires-2 Inv-loop μ-loop
+source-at-requires-2 c κs = omega arith
+
+show-source-requires-2 : tie.Need-show-source-requires-2 Inv-loop μ-loop
+show-source-requires-2 c κs = search needs
+
+add-sources : tie.Need-add-sources Inv-loop μ-loop
+add-sources c = search needs
+
+mul-sources-2 : tie.Need-mul-sources-2 Inv-loop μ-loop
+mul-sources-2 c = search needs
+
+slice-write-sources-2 : tie.Need-slice-write-sources-2 Inv-loop μ-loop
+slice-write-sources-2 c = simp length-set (omega arith)
+
+add-g : tie.Need-add-g Inv-loop μ-loop
+add-g c = search needs
+
+loop-less : tie.Need-loop-less Inv-loop μ-loop
+loop-less c = search needs
+
+loop-again : tie.Need-loop-again Inv-loop μ-loop
+loop-again c =
+    let here = c .before .before .before .before .before in
+    let args = here .before .before .before .args in
+    let shows = heldWord (args .line) (args .value) (args .first + here .loop .g) in (
+      omega arith,
+      simp length-set (here .loop .inv .1),
+      sources-more _ _ _ (args .gates .now) (here .loop .sources) (here .loop .g) _ _ (omega arith)
+          (c .before .before .show-source .ensures ∙ ap shows (c .before .before .before .source-at .ensures))
+          (c .show-source2 .ensures ∙ ap shows (c .before .source-at2 .ensures))
+          (here .loop .inv .2),
+    )
+
+same-length : tie.Need-same-length Inv-loop μ-loop
+same-length c = search needs
+
+returns : tie.Need-returns Inv-loop μ-loop
+returns c =
+    let here = c .before in
+    let e : here .loop .g ≡ length (here .before .before .before .args .gates .now) / 5 = omega arith in
+    rw e at (here .loop .inv .2)
+
+pub take-sources-spec : {M : Type 1} → statement M
+take-sources-spec =
+    tie.close
+    (tie.spec
+    Inv-loop
+    μ-loop
+    loop-holds
+    mul-from
+    mul-to
+    add-show-source
+    add-source-at
+    source-at-requires
+    show-source-requires
+    mul-sources
+    slice-write-sources
+    add-show-source-2
+    add-source-at-2
+    source-at-requires-2
+    show-source-requires-2
+    add-sources
+    mul-sources-2
+    slice-write-sources-2
+    add-g
+    loop-less
+    loop-again
+    same-length
+    returns)

@@ -1,0 +1,10 @@
+pub mod Runs
+pub mod Obeys
+pub mod Related
+pub mod Monotone
+pub mod Waits
+pub mod Answers
+pub mod Outcomes
+pub mod Unrefused
+pub mod Writes
+pub mod Turns

@@ -1,0 +1,83 @@
+-- What a buffer holds while lines are worked out into it, one after the other.
+use native.Mathlib.Nat.{add-sub-of-le}
+use native.Mathlib.Omega.{arith}
+use Prim.Native.Nat.{ℕ, suc, _+_, _-_, _≤_, _<_}
+use mathlib.Core.Path.{_≡_, refl, sym, ap, _∙_}
+use mathlib.Core.List.{List, [], _∷_, _++_, append-assoc}
+use lib.ListN.{length, getD, take, drop, set, length-append, length-drop, take-append-drop, List·getD-append}
+use lib.Seq.{length-take-le, drop-cons, drop-drop, drop-append-add, take-at, set-append-seam}
+use Rattle.simulation.specs.Run.{Driver, Rule, drive, workOut}
+use Rattle.simulation.specs.Service.{over}
+use Rattle.simulation.proofs.Runs.{length-run, run-append, run-more}
+
+module _ (ws buffer : List ℕ) where
+  pub length-over : length ws ≤ length buffer → length (over ws buffer) ≡ length buffer
+  length-over h = simp (length-append, length-drop) (omega arith)
+
+  pub over-at : (i : ℕ) → i < length ws → getD (over ws buffer) i 0 ≡ getD ws i 0
+  over-at i h = List·getD-append ws (drop (length ws) buffer) 0 i h
+
+  pub over-set : (x : ℕ) → length ws < length buffer → set (over ws buffer) (length ws) x ≡ over (ws ++ (x ∷ [])) buffer
+  over-set x h =
+      let l : length (ws ++ (x ∷ [])) ≡ suc (length ws) = simp length-append (omega arith) in
+      ap (λ (b : List ℕ). set (ws ++ b) (length ws) x) (drop-cons buffer (length ws) 0 h)
+      ∙ set-append-seam ws (getD buffer (length ws) 0) (drop (suc (length ws)) buffer) x
+      ∙ sym (ap (λ (k : ℕ). (ws ++ (x ∷ [])) ++ drop k buffer) l ∙ append-assoc ws (x ∷ []) (drop (suc (length ws)) buffer))
+
+  -- What is written over a shorter beginning covers it.
+  pub over-over : (vs : List ℕ) → length vs ≤ length ws → over ws (over vs buffer) ≡ over ws buffer
+  over-over vs h =
+      let k = length ws - length vs in
+      let e : length vs + k ≡ length ws = add-sub-of-le h in
+      ap (_++_ ws)
+      (ap (λ (n : ℕ). drop n (over vs buffer)) (sym e) ∙ drop-append-add vs (drop (length vs) buffer) k
+      ∙ drop-drop k (length vs) buffer ∙ ap (λ (n : ℕ). drop n buffer) e)
+
+pub over-own : (k : ℕ) (buffer : List ℕ) → k ≤ length buffer → buffer ≡ over (take k buffer) buffer
+over-own k buffer h = sym (rw (length-take-le k buffer h) (take-append-drop k buffer))
+
+-- The buffer after so many drivers from a line on.
+module _ (r : Rule ℕ) (first : ℕ) (buffer : List ℕ) where
+  abbrev pub worked : List (Driver ℕ) → List ℕ
+  worked ds = workOut r ds (take first buffer)
+
+  module _ (ds : List (Driver ℕ)) (room : first + length ds ≤ length buffer) where
+    pub length-worked : length (worked ds) ≡ first + length ds
+    length-worked = length-run r ds (take first buffer) ∙ ap (λ (k : ℕ). k + length ds) (length-take-le first buffer (omega arith))
+
+    pub length-written : length (over (worked ds) buffer) ≡ length buffer
+    length-written = length-over (worked ds) buffer (omega (arith, length-worked))
+
+    pub source : (k : ℕ) → k < first + length ds → getD (over (worked ds) buffer) k 0 ≡ getD (worked ds) k 0
+    source k h = over-at (worked ds) buffer k (omega (arith, length-worked))
+
+  pub one-more : (ds : List (Driver ℕ)) (d : Driver ℕ) (line x : ℕ) → line ≡ first + length ds → line < length buffer →
+      x ≡ r .shows line (drive r (worked ds) d) →
+      set (over (worked ds) buffer) line x ≡ over (worked (ds ++ (d ∷ []))) buffer
+  one-more ds d line x l room e =
+      let w = worked ds in
+      let k : line ≡ length w = l ∙ sym (length-worked ds (omega arith)) in
+      ap (λ (n : ℕ). set (over w buffer) n x) k ∙ over-set w buffer x (omega arith)
+      ∙ ap (λ (us : List ℕ). over us buffer)
+      (ap (λ (y : ℕ). w ++ (y ∷ [])) (e ∙ ap (λ (n : ℕ). r .shows n (drive r w d)) k) ∙ sym (run-more r ds d (take first buffer)))
+
+constants : (buffer : List ℕ) → 2 ≤ length buffer → set (set buffer 0 0) 1 1 ≡ over (0 ∷ 1 ∷ []) buffer
+constants [] h = absurd (omega arith)
+constants (x ∷ []) h = absurd (omega arith)
+constants (x ∷ y ∷ l) h = refl
+
+-- The constants written, then some lines worked out, then further lines from where these end.
+pub all-lines : (r : Rule ℕ) (ds es : List (Driver ℕ)) (buffer : List ℕ) (first : ℕ) {us ws : List ℕ} →
+    first ≡ 2 + length ds → first + length es ≤ length buffer →
+    us ≡ over (workOut r ds (take 2 (set (set buffer 0 0) 1 1))) (set (set buffer 0 0) 1 1) →
+    ws ≡ over (workOut r es (take first us)) us → ws ≡ over (workOut r (ds ++ es) (0 ∷ 1 ∷ [])) buffer
+all-lines r ds es buffer first f room d e =
+    let cs : List ℕ = 0 ∷ 1 ∷ [] in
+    let vs = workOut r ds cs in
+    let l = length-run r ds cs in
+    let begun = d ∙ ap (λ (b : List ℕ). over (workOut r ds (take 2 b)) b) (constants buffer (omega arith))
+    ∙ over-over vs buffer cs (omega arith) in
+    e ∙ ap (λ (b : List ℕ). over (workOut r es (take first b)) b) begun
+    ∙ ap (λ (us : List ℕ). over (workOut r es us) (over vs buffer)) (take-at vs (drop (length vs) buffer) first (l ∙ sym f))
+    ∙ over-over (workOut r es vs) buffer vs (omega (arith, length-run r es vs))
+    ∙ ap (λ (us : List ℕ). over us buffer) (sym (run-append r ds es cs))

@@ -1,0 +1,12 @@
+pub mod Fits
+pub mod Padded
+pub mod Laid
+pub mod Refusals
+pub mod Heads
+pub mod Decoded
+pub mod Shaped
+pub mod Accepted
+pub mod Tables
+pub mod Encode
+pub mod SameFile
+pub mod Promises

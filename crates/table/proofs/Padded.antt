@@ -1,0 +1,106 @@
+-- Lists cut or filled up to a length, and levels laid one after the other.
+use Prim.Native.Nat.{ℕ, zero, suc, _+_, _*_, _≤_, _<_, min}
+use native.Mathlib.Nat.{zero-add, suc-add, zero-min, min-zero, suc-min-suc}
+use native.Mathlib.Omega.{arith}
+use mathlib.Core.Path.{_≡_, refl, sym, ap, _∙_}
+use mathlib.Core.List.{List, [], _∷_, _++_, flatMap, append-assoc}
+use lib.ListN.{length, getD, take, drop, set, replicate, length-append, List·getD-append}
+use lib.Seq.{paste, getD-append-add}
+use Rattle.table.specs.Table.{padded}
+
+pub length-padded : (n : ℕ) (l : List ℕ) → length (padded n l) ≡ n
+unfolding padded
+length-padded zero l = refl
+length-padded (suc n) [] = ap suc (length-padded n [])
+length-padded (suc n) (x ∷ xs) = ap suc (length-padded n xs)
+
+pub padded-at : (n : ℕ) (l : List ℕ) (i : ℕ) → i < n → getD (padded n l) i 0 ≡ getD l i 0
+unfolding padded
+padded-at zero l i h = absurd (omega arith)
+padded-at (suc n) [] zero h = refl
+padded-at (suc n) [] (suc i) h = padded-at n [] i (omega arith)
+padded-at (suc n) (x ∷ xs) zero h = refl
+padded-at (suc n) (x ∷ xs) (suc i) h = padded-at n xs i (omega arith)
+
+pub padded-none : (n : ℕ) → replicate n 0 ≡ padded n []
+unfolding padded
+padded-none zero = refl
+padded-none (suc n) = ap {B = List ℕ} (λ r. 0 ∷ r) (padded-none n)
+
+-- Past the length nothing is seen.
+pub padded-cut : (xs ys : List ℕ) (n : ℕ) → n ≤ length xs → padded n xs ≡ padded n (xs ++ ys)
+unfolding padded
+padded-cut xs ys zero h = refl
+padded-cut [] ys (suc n) h = absurd (omega arith)
+padded-cut (x ∷ xs) ys (suc n) h = ap {B = List ℕ} (λ r. x ∷ r) (padded-cut xs ys n (omega arith))
+
+-- A write at the end of what is there.
+pub padded-set : (n : ℕ) (xs : List ℕ) (a : ℕ) → length xs < n → set (padded n xs) (length xs) a ≡ padded n (xs ++ (a ∷ []))
+unfolding padded
+padded-set zero xs a h = absurd (omega arith)
+padded-set (suc n) [] a h = refl
+padded-set (suc n) (x ∷ xs) a h = ap {B = List ℕ} (λ r. x ∷ r) (padded-set n xs a (omega arith))
+
+blank : (m n : ℕ) → padded n [] ≡ padded n (padded m [])
+unfolding padded
+blank m zero = refl
+blank zero (suc n) = refl
+blank (suc m) (suc n) = ap {B = List ℕ} (λ r. 0 ∷ r) (blank m n)
+
+-- The first elements of v, at most m, on an empty list.
+over-blank : (m n : ℕ) (v : List ℕ) → m ≤ n →
+    take (min m (length v)) v ++ drop (min m (length v)) (padded n []) ≡ padded n (padded m v)
+unfolding padded
+over-blank zero n v h = rw (zero-min (length v))
+over-blank (suc m) n [] h = rw (min-zero (suc m)) (blank (suc m) n)
+over-blank (suc m) zero (y ∷ ys) h = absurd (omega arith)
+over-blank (suc m) (suc n) (y ∷ ys) h =
+    rw (suc-min-suc m (length ys)) (ap {B = List ℕ} (λ r. y ∷ r) (over-blank m n ys (omega arith)))
+
+pub padded-paste : (n m : ℕ) (xs v : List ℕ) → length xs + m ≤ n →
+    paste (padded n xs) (length xs) v (min m (length v)) ≡ padded n (xs ++ padded m v)
+unfolding padded
+padded-paste n m [] v h = rw (zero-add (min m (length v))) (over-blank m n v (omega arith))
+padded-paste zero m (x ∷ xs) v h = absurd (omega arith)
+padded-paste (suc n) m (x ∷ xs) v h =
+    rw (suc-add (length xs) (min m (length v))) (ap {B = List ℕ} (λ r. x ∷ r) (padded-paste n m xs v (omega arith)))
+
+padded-padded : (n : ℕ) (l : List ℕ) → padded n (padded n l) ≡ padded n l
+unfolding padded
+padded-padded zero l = refl
+padded-padded (suc n) [] = ap {B = List ℕ} (λ r. 0 ∷ r) (padded-padded n [])
+padded-padded (suc n) (x ∷ xs) = ap {B = List ℕ} (λ r. x ∷ r) (padded-padded n xs)
+
+blank-paste : (n : ℕ) (v : List ℕ) → paste (replicate n 0) 0 v (min n (length v)) ≡ padded n v
+blank-paste n v =
+    ap (λ (l : List ℕ). paste l 0 v (min n (length v))) (padded-none n) ∙ padded-paste n n [] v (omega arith) ∙ padded-padded n v
+
+-- A list, as far as it goes, on an empty one.
+pub pasted : (n : ℕ) {l u v : List ℕ} → l ≡ paste (replicate n 0) 0 u (min n (length u)) → u ≡ v → l ≡ padded n v
+pasted n {l} {u} {v} e f = e ∙ blank-paste n u ∙ ap (padded n) f
+
+-- Levels one after the other, 16 bytes each.
+pub flat-append : (ls ms : List (List ℕ)) → flatMap (padded 16) (ls ++ ms) ≡ flatMap (padded 16) ls ++ flatMap (padded 16) ms
+unfolding flatMap
+flat-append [] ms = refl
+flat-append (l ∷ ls) ms =
+    ap (λ (r : List ℕ). padded 16 l ++ r) (flat-append ls ms)
+    ∙ sym (append-assoc (padded 16 l) (flatMap (padded 16) ls) (flatMap (padded 16) ms))
+
+pub length-flat : (ls : List (List ℕ)) → length (flatMap (padded 16) ls) ≡ length ls * 16
+unfolding flatMap
+length-flat [] = refl
+length-flat (l ∷ ls) =
+    let h = length-padded 16 l in
+    let t = length-flat ls in
+    length-append (padded 16 l) (flatMap (padded 16) ls) ∙ omega arith
+
+pub flat-at : (ls : List (List ℕ)) (l k : ℕ) → k < 16 → getD (flatMap (padded 16) ls) (l * 16 + k) 0 ≡ getD (getD ls l []) k 0
+unfolding flatMap
+flat-at [] l k h = refl
+flat-at (v ∷ vs) zero k h =
+    rw (zero-add k)
+    (List·getD-append (padded 16 v) (flatMap (padded 16) vs) 0 k (rw (length-padded 16 v) h) ∙ padded-at 16 v k h)
+flat-at (v ∷ vs) (suc l) k h =
+    let e : suc l * 16 + k ≡ length (padded 16 v) + (l * 16 + k) = let p = length-padded 16 v in omega arith in
+    rw e (getD-append-add (padded 16 v) (flatMap (padded 16) vs) (l * 16 + k) 0 ∙ flat-at vs l k h)

@@ -1,0 +1,116 @@
+-- `fit::ask_levels` meets its contract. The loop's invariant: question 4 is that of the levels left and the fields from the cursor on.
+use borrow.Author.Needs.{needs}
+use borrow.Author.Tests.{not-true, not-false}
+use native.Mathlib.Omega.{arith}
+use Prim.Native.Nat.{_-_, _≤_}
+use mathlib.Core.Path.{sym, _∙_}
+use lib.ListN.{drop}
+use Rattle.fields.specs.Fields.{fieldsFrom, fieldsOf}
+use Rattle.fields.proofs.Steps.{items-next, ended}
+use Rattle.table.proofs.Fits.{skipped, Passed, passed-none, passed-one, not-level, too-few, enough, too-many}
+use Rattle.table.proofs.fit.ask_levels.Statement.{statement}
+use Rattle.table.proofs.fit.ask_levels.Tie as tie
+
+abbrev Inv-loop : tie.InvT-loop
+Inv-loop file n cursor₀ counter₀ cursor counter =
+    (counter ≤ n) × Passed n (drop 2 (fieldsOf file .items)) counter (fieldsFrom file (cursor .at) .items)
+
+abbrev μ-loop : tie.MeasureT-loop
+μ-loop file n cursor₀ counter₀ cursor counter = n - counter
+
+new-requires : tie.Need-new-requires Inv-loop μ-loop
+new-requires c κs = search needs
+
+skip-requires : tie.Need-skip-requires Inv-loop μ-loop
+skip-requires c κs = search needs
+
+loop-holds : tie.Need-loop-holds Inv-loop μ-loop
+loop-holds c =
+    let a = c .before .before .before .args in
+    (omega arith, passed-none (a .n) _ (skipped _ 2 (c .before .new .ensures) (c .skip .ensures)))
+
+next-requires : tie.Need-next-requires Inv-loop μ-loop
+next-requires c κs = search needs
+
+enum-known-field : tie.Need-enum-known-field Inv-loop μ-loop
+enum-known-field c = search needs
+
+returns : tie.Need-returns Inv-loop μ-loop
+returns c =
+    let loop = c .before .before .before .loop in
+    too-few _ _ (loop .counter) _ (loop .inv .1) (c .before .before .loop-test .taken)
+    (ended _ _ _ (sym (c .before .next .ensures)) (c .match .keys2))
+
+value-requires : tie.Need-value-requires Inv-loop μ-loop
+value-requires c κs = search needs
+
+is-level-requires : tie.Need-is-level-requires Inv-loop μ-loop
+is-level-requires c κs = search needs
+
+returns-2 : tie.Need-returns-2 Inv-loop μ-loop
+returns-2 c =
+    let found = c .before .before .before .before in
+    let turn = found .before .before .before in
+    let loop = turn .before .loop in
+    not-level _ _ (loop .counter) _ (loop .inv .1) (turn .loop-test .taken)
+    (items-next _ _ (sym (found .before .before .next .ensures) ∙ found .field .given .1))
+    (rw (← c .before .before .value .ensures) (sym (c .before .is-level .ensures) ∙ not-true _ (c .if1 .taken)))
+
+add-counter : tie.Need-add-counter Inv-loop μ-loop
+add-counter c = search needs
+
+loop-less : tie.Need-loop-less Inv-loop μ-loop
+loop-less c = search needs
+
+loop-again : tie.Need-loop-again Inv-loop μ-loop
+loop-again c =
+    let found = c .before .before .before .before in
+    let turn = found .before .before .before in
+    let loop = turn .before .loop in (
+      omega arith,
+      passed-one _ _ (loop .counter) _ (loop .inv .1) (turn .loop-test .taken)
+          (items-next _ _ (sym (found .before .before .next .ensures) ∙ found .field .given .1))
+          (rw (← c .before .before .value .ensures) (sym (c .before .is-level .ensures) ∙ not-false _ (c .if1 .left))),
+    )
+
+next-requires-2 : tie.Need-next-requires-2 Inv-loop μ-loop
+next-requires-2 c κs = search needs
+
+enum-told : tie.Need-enum-told Inv-loop μ-loop
+enum-told c = search needs
+
+returns-3 : tie.Need-returns-3 Inv-loop μ-loop
+returns-3 c =
+    let loop = c .before .before .before .loop in
+    enough _ _ (loop .counter) _ (loop .inv .1) (c .before .before .loop-test .left)
+    (ended _ _ _ (sym (c .before .next2 .ensures)) (c .match2 .keys2))
+
+returns-4 : tie.Need-returns-4 Inv-loop μ-loop
+returns-4 c =
+    let step = c .before .before in
+    let loop = step .before .before .loop in
+    too-many _ _ (loop .counter) _ (loop .inv .1) (step .before .loop-test .left)
+    (items-next _ _ (sym (step .next2 .ensures) ∙ c .enum-told .given .1))
+
+pub ask-levels-spec : {M : Type 1} → statement M
+ask-levels-spec =
+    tie.close
+    (tie.spec
+    Inv-loop
+    μ-loop
+    new-requires
+    skip-requires
+    loop-holds
+    next-requires
+    enum-known-field
+    returns
+    value-requires
+    is-level-requires
+    returns-2
+    add-counter
+    loop-less
+    loop-again
+    next-requires-2
+    enum-told
+    returns-3
+    returns-4)

@@ -1,0 +1,108 @@
+-- `reading::asked_of_diagram` meets its contract: each return is the number that the answers before it make first.
+use borrow.Author.Needs.{needs}
+use mathlib.Core.Path.{refl, sym, _∙_}
+use Rattle.fields.specs.Header.{firstNo}
+use Rattle.diagram.specs.declared.sound.Range.the-variants.{Within, Outside}
+use Rattle.diagram.specs.declared.sound.Twins.the-variants.{Absent, Present}
+use Rattle.diagram.specs.declared.sound.Numbering.the-variants.{InTurn, OutOfTurn}
+use Rattle.diagram.specs.declared.sound.Branching.the-variants.{Throughout, Missing}
+use Rattle.table.proofs.Refusals.{diagram-by}
+use Rattle.table.proofs.reading.asked_of_diagram.Statement.{statement}
+use Rattle.table.proofs.reading.asked_of_diagram.Tie as tie
+
+ask-range-requires : tie.Need-ask-range-requires
+ask-range-requires c κs = search needs
+
+enum-told : tie.Need-enum-told
+enum-told c = search needs
+
+enum-told-2 : tie.Need-enum-told-2
+enum-told-2 c = search needs
+
+returns : tie.Need-returns
+unfolding firstNo
+returns c =
+    let range = sym (c .before .before .ask-range .ensures) ∙ c .enum-told2 .given .1 in
+    diagram-by _ Outside _ _ _ range refl refl refl
+
+ask-twins-requires : tie.Need-ask-twins-requires
+ask-twins-requires c κs = search needs
+
+enum-told-3 : tie.Need-enum-told-3
+enum-told-3 c = search needs
+
+enum-told-4 : tie.Need-enum-told-4
+enum-told-4 c = search needs
+
+returns-2 : tie.Need-returns-2
+unfolding firstNo
+returns-2 c =
+    let range = sym (c .before .before .before .before .before .ask-range .ensures) ∙ c .before .before .before .enum-told .given .1 in
+    let twins = sym (c .before .before .ask-twins .ensures) ∙ c .enum-told4 .given .1 in
+    diagram-by _ Within Present _ _ range twins refl refl
+
+ask-numbering-requires : tie.Need-ask-numbering-requires
+ask-numbering-requires c κs = search needs
+
+enum-told-5 : tie.Need-enum-told-5
+enum-told-5 c = search needs
+
+enum-told-6 : tie.Need-enum-told-6
+enum-told-6 c = search needs
+
+returns-3 : tie.Need-returns-3
+unfolding firstNo
+returns-3 c =
+    let range = sym (c .before .before .before .before .before .before .before .before .ask-range .ensures) ∙ c .before .before .before .before .before .before .enum-told .given .1 in
+    let twins = sym (c .before .before .before .before .before .ask-twins .ensures) ∙ c .before .before .before .enum-told3 .given .1 in
+    let numbering = sym (c .before .before .ask-numbering .ensures) ∙ c .enum-told6 .given .1 in
+    diagram-by _ Within Absent OutOfTurn _ range twins numbering refl
+
+ask-branching-requires : tie.Need-ask-branching-requires
+ask-branching-requires c κs = search needs
+
+enum-told-7 : tie.Need-enum-told-7
+enum-told-7 c = search needs
+
+enum-told-8 : tie.Need-enum-told-8
+enum-told-8 c = search needs
+
+returns-4 : tie.Need-returns-4
+unfolding firstNo
+returns-4 c =
+    let range = sym (c .before .before .before .before .before .before .before .before .before .before .before .ask-range .ensures) ∙ c .before .before .before .before .before .before .before .before .before .enum-told .given .1 in
+    let twins = sym (c .before .before .before .before .before .before .before .before .ask-twins .ensures) ∙ c .before .before .before .before .before .before .enum-told3 .given .1 in
+    let numbering = sym (c .before .before .before .before .before .ask-numbering .ensures) ∙ c .before .before .before .enum-told5 .given .1 in
+    let branching = sym (c .before .before .ask-branching .ensures) ∙ c .enum-told8 .given .1 in
+    diagram-by _ Within Absent InTurn Missing range twins numbering branching
+
+returns-5 : tie.Need-returns-5
+unfolding firstNo
+returns-5 c =
+    let range = sym (c .before .before .before .before .before .before .before .before .before .before .before .ask-range .ensures) ∙ c .before .before .before .before .before .before .before .before .before .enum-told .given .1 in
+    let twins = sym (c .before .before .before .before .before .before .before .before .ask-twins .ensures) ∙ c .before .before .before .before .before .before .enum-told3 .given .1 in
+    let numbering = sym (c .before .before .before .before .before .ask-numbering .ensures) ∙ c .before .before .before .enum-told5 .given .1 in
+    let branching = sym (c .before .before .ask-branching .ensures) ∙ c .enum-told7 .given .1 in
+    diagram-by _ Within Absent InTurn Throughout range twins numbering branching
+
+pub asked-of-diagram-spec : {M : Type 1} → statement M
+asked-of-diagram-spec =
+    tie.close
+    (tie.spec
+    ask-range-requires
+    enum-told
+    enum-told-2
+    returns
+    ask-twins-requires
+    enum-told-3
+    enum-told-4
+    returns-2
+    ask-numbering-requires
+    enum-told-5
+    enum-told-6
+    returns-3
+    ask-branching-requires
+    enum-told-7
+    enum-told-8
+    returns-4
+    returns-5)

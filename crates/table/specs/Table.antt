@@ -1,0 +1,144 @@
+-- A table file: questions 3 and 4 about its fields, the diagram that it holds, and the first question that it fails.
+use Prim.Native.Nat.{ℕ, zero, suc, _/_, _%_, _^_}
+use mathlib.Core.Bool.{Bool, true, false, _&&_, cond}
+use mathlib.Core.List.{List, [], _∷_, map, flatMap}
+use lib.Dec.{ltb, eqb}
+use lib.ListN.{length, getD, drop, replicate}
+use Rattle.fields.specs.Fields.{Item, fieldsOf}
+use Rattle.fields.specs.Header.{between, framingNumber, contactsIn, contactsNumber, valueIn, firstNo}
+use Rattle.diagram.specs.declared.Diagram.{Diagram}
+use Rattle.table.specs.declared.fit.Outputs.{Outputs}
+use Rattle.table.specs.declared.fit.Outputs.the-variants.{Listed, Unlisted}
+use Rattle.table.specs.declared.fit.Levels.{Levels}
+use Rattle.table.specs.declared.fit.Levels.the-variants.{Given, Lacking}
+use Rattle.diagram.specs.declared.sound.Range.{Range}
+use Rattle.diagram.specs.declared.sound.Range.the-variants.{Within, Outside}
+use Rattle.diagram.specs.declared.sound.Twins.{Twins}
+use Rattle.diagram.specs.declared.sound.Twins.the-variants.{Absent, Present}
+use Rattle.diagram.specs.declared.sound.Numbering.{Numbering}
+use Rattle.diagram.specs.declared.sound.Numbering.the-variants.{InTurn, OutOfTurn}
+use Rattle.diagram.specs.declared.sound.Branching.{Branching}
+use Rattle.diagram.specs.declared.sound.Branching.the-variants.{Throughout, Missing}
+use Rattle.table.specs.declared.reading.Table.{Table}
+use Rattle.table.specs.declared.reading.Reading.{Reading}
+use Rattle.diagram.specs.Diagram.{inputOf, wordAt}
+use Rattle.diagram.specs.Questions.{rangeOf, twinsOf, numberingOf, branchingOf}
+
+-- The number of each answer: 0 for yes, and the question's for no.
+abbrev pub outputsNumber : Outputs → ℕ
+outputsNumber (Listed m) = 0
+outputsNumber Unlisted = 3
+
+abbrev pub levelsNumber : Levels → ℕ
+levelsNumber Given = 0
+levelsNumber Lacking = 4
+
+abbrev pub rangeNumber : Range → ℕ
+rangeNumber Within = 0
+rangeNumber Outside = 5
+
+abbrev pub twinsNumber : Twins → ℕ
+twinsNumber Absent = 0
+twinsNumber Present = 6
+
+abbrev pub numberingNumber : Numbering → ℕ
+numberingNumber InTurn = 0
+numberingNumber OutOfTurn = 7
+
+abbrev pub branchingNumber : Branching → ℕ
+branchingNumber Throughout = 0
+branchingNumber Missing = 8
+
+-- 3. Is the second tag 2, length 1 to 8? (Asked of the fields from the second on.)
+unfoldable pub outputsIn : List Item → Outputs
+outputsIn [] = Unlisted
+outputsIn (i ∷ is) =
+    let m = length (i .value) in
+    cond (eqb (i .tag) 2 && between 1 m 8) (Listed m) Unlisted
+
+abbrev pub isLevel : ℕ → ℕ → Bool
+isLevel tag len = eqb tag 3 && eqb (len % 2) 0 && between 2 len 16
+
+unfoldable pub areLevels : ℕ → List Item → Bool
+areLevels zero [] = true
+areLevels zero (i ∷ is) = false
+areLevels (suc n) [] = false
+areLevels (suc n) (i ∷ is) = isLevel (i .tag) (length (i .value)) && areLevels n is
+
+-- 4. Do exactly n fields of tag 3 follow and no others, each of even length 2 to 16? (Asked of the fields from the third on.)
+abbrev pub levelsIn : ℕ → List Item → Levels
+levelsIn n is = cond (areLevels n is) Given Lacking
+
+-- The list l at length n: cut there, or filled up with 0.
+unfoldable pub padded : ℕ → List ℕ → List ℕ
+padded zero l = []
+padded (suc n) [] = 0 ∷ padded n []
+padded (suc n) (x ∷ xs) = x ∷ padded n xs
+
+-- The values of the fields from the third on.
+abbrev pub levelsOf : List Item → List (List ℕ)
+levelsOf is = map (λ (i : Item). i .value) (drop 2 is)
+
+-- The diagram that the fields hold: two bytes for each node, its 0-edge and its 1-edge.
+unfoldable pub diagramOf : List Item → Diagram
+diagramOf is =
+    record {
+      contacts = getD (valueIn is 0) 0 0;
+      outputs = length (valueIn is 1);
+      roots = padded 8 (valueIn is 1);
+      widths = padded 12 (map (λ (v : List ℕ). length v / 2) (levelsOf is));
+      edges = padded 192 (flatMap (padded 16) (levelsOf is));
+    }
+
+-- The diagram in a file.
+abbrev pub diagramIn : List ℕ → Diagram
+diagramIn file = diagramOf (fieldsOf file .items)
+
+-- The questions about the fields, and about the diagram that they hold, in their sequence.
+unfoldable pub fieldsRefusal : List ℕ → ℕ
+fieldsRefusal file =
+    let is = fieldsOf file .items in
+    firstNo
+    (framingNumber (fieldsOf file .framing)
+    ∷ contactsNumber (contactsIn is)
+    ∷ outputsNumber (outputsIn (drop 1 is))
+    ∷ levelsNumber (levelsIn (getD (valueIn is 0) 0 0) (drop 2 is))
+    ∷ [])
+
+unfoldable pub diagramRefusal : Diagram → ℕ
+diagramRefusal d =
+    firstNo
+    (rangeNumber (rangeOf d)
+    ∷ twinsNumber (twinsOf d)
+    ∷ numberingNumber (numberingOf d)
+    ∷ branchingNumber (branchingOf d)
+    ∷ [])
+
+-- The first of questions 1 to 8 that the file fails, or 0.
+unfoldable pub tableRefusal : List ℕ → ℕ
+tableRefusal file = firstNo (fieldsRefusal file ∷ diagramRefusal (diagramIn file) ∷ [])
+
+abbrev pub noDiagram : Diagram
+noDiagram = record { contacts = 0; outputs = 0; roots = replicate 8 0; widths = replicate 12 0; edges = replicate 192 0 }
+
+-- What reading a table gives: the diagram, or the refusal with every other result zero.
+abbrev pub refusedTable : ℕ → Table
+refusedTable number = record { refusal = number; diagram = noDiagram }
+
+abbrev pub tableOr : ℕ → Diagram → Table
+tableOr zero d = record { refusal = 0; diagram = d }
+tableOr (suc k) d = refusedTable (suc k)
+
+unfoldable pub tableOf : List ℕ → Table
+tableOf file = tableOr (tableRefusal file) (diagramIn file)
+
+-- 10. Is a below 2^n? Then the word of the outputs at input a.
+abbrev pub refusedReading : ℕ → Reading
+refusedReading number = record { refusal = number; word = 0 }
+
+abbrev pub readingOr : ℕ → Diagram → ℕ → Reading
+readingOr zero d a = cond (ltb a (2 ^ d .contacts)) (record { refusal = 0; word = wordAt d (inputOf a) (d .outputs) }) (refusedReading 10)
+readingOr (suc k) d a = refusedReading (suc k)
+
+unfoldable pub readingOf : Table → ℕ → Reading
+readingOf t a = readingOr (t .refusal) (t .diagram) a

@@ -1,0 +1,77 @@
+// Questions 3 and 4, about the fields of a table file.
+use fields::Cursor;
+use fields::Step;
+ghost use mathlib.Core.Path.{_≡_};
+ghost use lib.ListN.{drop};
+ghost use Rattle.fields.specs.Fields.{fieldsOf};
+ghost use Rattle.table.specs.Table.{outputsIn, isLevel, levelsIn};
+
+// Question 3's answer: the count of outputs.
+pub enum Outputs {
+    Listed(usize),
+    Unlisted,
+}
+
+// Question 4's answer.
+pub enum Levels {
+    Given,
+    Lacking,
+}
+
+// Question 3: is the second field tag 2, length 1 to 8?
+pub fn count_outputs(file: &[u8]) -> Outputs
+    ensures { λ r. ⌜ r ≡ outputsIn (drop 1 (fieldsOf (now (file .entry)) .items)) ⌝ }
+{
+    let Step::Next(field, _) = Cursor::new().skip(file, 1).next(file) else {
+        return Outputs::Unlisted;
+    };
+    let tag = field.tag;
+    let m = fields::value(file, field).len();
+    if tag != 2 {
+        return Outputs::Unlisted;
+    }
+    if m < 1 {
+        return Outputs::Unlisted;
+    }
+    if 8 < m {
+        return Outputs::Unlisted;
+    }
+    Outputs::Listed(m)
+}
+
+// Whether a field's tag and length are those of a level.
+fn is_level(tag: u8, len: usize) -> bool
+    ensures { λ r. ⌜ r ≡ isLevel tag len ⌝ }
+{
+    if tag != 3 {
+        return false;
+    }
+    if len % 2 != 0 {
+        return false;
+    }
+    if len < 2 {
+        return false;
+    }
+    len <= 16
+}
+
+// Question 4: do exactly n fields of tag 3 follow and no others, each of even length 2 to 16?
+pub fn ask_levels(file: &[u8], n: usize) -> Levels
+    ensures { λ r. ⌜ r ≡ levelsIn n (drop 2 (fieldsOf (now (file .entry)) .items)) ⌝ }
+{
+    let mut cursor = Cursor::new().skip(file, 2);
+    for _ in 0..n {
+        let Step::Next(field, moved) = cursor.next(file) else {
+            return Levels::Lacking;
+        };
+        let tag = field.tag;
+        if !is_level(tag, fields::value(file, field).len()) {
+            return Levels::Lacking;
+        }
+        cursor = moved;
+    }
+    let Step::Next(_, _) = cursor.next(file) else {
+        return Levels::Given;
+    };
+    Levels::Lacking
+}

@@ -1,0 +1,127 @@
+// A table read under questions 1 to 8, and its word at an input.
+use crate::decode;
+use crate::fit;
+use crate::fit::Levels;
+use crate::fit::Outputs;
+use diagram::Branching;
+use diagram::Diagram;
+use diagram::Numbering;
+use diagram::Range;
+use diagram::Twins;
+use fields::Contacts;
+use fields::Framing;
+ghost use mathlib.Core.Path.{_≡_};
+ghost use Rattle.diagram.specs.Questions.{Sized};
+ghost use Rattle.table.specs.Table.{fieldsRefusal, diagramRefusal, refusedTable, tableOf, readingOf};
+
+// A table's diagram, or the number of the first question that it fails and nothing else.
+pub struct Table {
+    pub refusal: u32,
+    pub diagram: Diagram,
+}
+
+// The outputs at an input, output j with the weight 2^j, or the refusal.
+#[repr(C)]
+pub struct Reading {
+    pub refusal: u32,
+    pub word: u32,
+}
+
+// Questions 1 to 4.
+fn asked_of_fields(file: &[u8]) -> u32
+    ensures { λ r. ⌜ r ≡ fieldsRefusal (now (file .entry)) ⌝ }
+{
+    let Framing::Whole = fields::whole(file) else {
+        return 1;
+    };
+    let Contacts::Counted(n) = fields::count_contacts(file) else {
+        return 2;
+    };
+    let Outputs::Listed(_) = fit::count_outputs(file) else {
+        return 3;
+    };
+    let Levels::Given = fit::ask_levels(file, n) else {
+        return 4;
+    };
+    0
+}
+
+// Questions 5 to 8.
+fn asked_of_diagram(d: Diagram) -> u32
+    requires { ⌜ Sized d ⌝ }
+    ensures { λ r. ⌜ r ≡ diagramRefusal d ⌝ }
+{
+    let Range::Within = diagram::ask_range(d) else {
+        return 5;
+    };
+    let Twins::Absent = diagram::ask_twins(d) else {
+        return 6;
+    };
+    let Numbering::InTurn = diagram::ask_numbering(d) else {
+        return 7;
+    };
+    let Branching::Throughout = diagram::ask_branching(d) else {
+        return 8;
+    };
+    0
+}
+
+// A refusal, with every other result zero.
+fn refused(number: u32) -> Table
+    ensures { λ r. ⌜ r ≡ refusedTable number ⌝ }
+{
+    Table {
+        refusal: number,
+        diagram: Diagram {
+            contacts: 0,
+            outputs: 0,
+            roots: [0; 8],
+            widths: [0; 12],
+            edges: [0; 192],
+        },
+    }
+}
+
+// The table in a file, under questions 1 to 8.
+pub fn read(file: &[u8]) -> Table
+    ensures { λ r. ⌜ r ≡ tableOf (now (file .entry)) ⌝ }
+{
+    let first = asked_of_fields(file);
+    if first != 0 {
+        return refused(first);
+    }
+    let diagram = decode::decode(file);
+    let second = asked_of_diagram(diagram);
+    if second != 0 {
+        return refused(second);
+    }
+    Table {
+        refusal: 0,
+        diagram: diagram,
+    }
+}
+
+// The word of a table at input a: question 10 after the table's own.
+pub fn read_off(file: &[u8], a: u32) -> Reading
+    ensures { λ r. ⌜ r ≡ readingOf (tableOf (now (file .entry))) a ⌝ }
+{
+    let table = read(file);
+    let refusal = table.refusal;
+    if refusal != 0 {
+        return Reading {
+            refusal: refusal,
+            word: 0,
+        };
+    }
+    let d = table.diagram;
+    if 1u32 << d.contacts <= a {
+        return Reading {
+            refusal: 10,
+            word: 0,
+        };
+    }
+    Reading {
+        refusal: 0,
+        word: diagram::word(d, a),
+    }
+}
