@@ -26,11 +26,10 @@ pub fn word(d: Diagram, input: u32) -> u32
     ensures { λ r. ⌜ r ≡ wordAt d (inputOf input) (d .outputs) ⌝ }
 {
     let n = d.contacts;
-    let roots = d.roots;
-    let edges = d.edges;
     let mut word: u32 = 0;
     for j in 0..d.outputs {
-        word += (lead(&edges, n, input, roots[j]) as u32) << j;
+        let node = d.roots[j];
+        word += (lead(&d.edges, n, input, node) as u32) << j;
     }
     word
 }

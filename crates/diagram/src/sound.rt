@@ -60,15 +60,14 @@ pub fn ask_range(d: Diagram) -> Range
     ensures { λ r. ⌜ r ≡ rangeOf d ⌝ }
 {
     let n = d.contacts;
-    let roots = d.roots;
-    let widths = d.widths;
-    let edges = d.edges;
-    if !below(&roots, 0, d.outputs, width(&widths, n, 0)) {
+    let first = width(&d.widths, n, 0);
+    if !below(&d.roots, 0, d.outputs, first) {
         return Range::Outside;
     }
     for l in 0..n {
-        let next = width(&widths, n, l + 1);
-        if !below(&edges, l * 16, 2 * widths[l], next) {
+        let nodes = d.widths[l];
+        let next = width(&d.widths, n, l + 1);
+        if !below(&d.edges, l * 16, 2 * nodes, next) {
             return Range::Outside;
         }
     }
@@ -110,10 +109,9 @@ pub fn ask_twins(d: Diagram) -> Twins
     requires { ⌜ Sized d ⌝ }
     ensures { λ r. ⌜ r ≡ twinsOf d ⌝ }
 {
-    let widths = d.widths;
-    let edges = d.edges;
     for l in 0..d.contacts {
-        if !all_unlike(&edges, l * 16, widths[l]) {
+        let nodes = d.widths[l];
+        if !all_unlike(&d.edges, l * 16, nodes) {
             return Twins::Present;
         }
     }
@@ -143,15 +141,15 @@ pub fn ask_numbering(d: Diagram) -> Numbering
     requires { ⌜ Sized d ⌝ }
     ensures { λ r. ⌜ r ≡ numberingOf d ⌝ }
 {
-    let roots = d.roots;
-    let widths = d.widths;
-    let edges = d.edges;
-    if !in_turn(&roots, 0, d.outputs, widths[0]) {
+    let first = d.widths[0];
+    if !in_turn(&d.roots, 0, d.outputs, first) {
         return Numbering::OutOfTurn;
     }
     let last = d.contacts - 1;
     for l in 0..last {
-        if !in_turn(&edges, l * 16, 2 * widths[l], widths[l + 1]) {
+        let nodes = d.widths[l];
+        let next = d.widths[l + 1];
+        if !in_turn(&d.edges, l * 16, 2 * nodes, next) {
             return Numbering::OutOfTurn;
         }
     }
@@ -176,10 +174,9 @@ pub fn ask_branching(d: Diagram) -> Branching
     requires { ⌜ Sized d ⌝ }
     ensures { λ r. ⌜ r ≡ branchingOf d ⌝ }
 {
-    let widths = d.widths;
-    let edges = d.edges;
     for l in 0..d.contacts {
-        if !forks(&edges, l * 16, widths[l]) {
+        let nodes = d.widths[l];
+        if !forks(&d.edges, l * 16, nodes) {
             return Branching::Missing;
         }
     }

@@ -5,9 +5,7 @@ use native.Mathlib.Nat.{le-antisymm, mul-le-mul-right, pow-le-pow-right}
 use native.Mathlib.Numerals.{add-one}
 use Prim.Native.Nat.{ℕ, _+_, _*_, _%_, _^_, _-_, _≤_, _<_}
 use mathlib.Core.Path.{_≡_, refl}
-use mathlib.Core.List.{List}
 use lib.Pow.{shl-exact}
-use lib.ListN.{getD}
 use Rattle.diagram.specs.declared.Diagram.{Diagram}
 use Rattle.diagram.specs.Diagram.{inputOf, path, root, valueAt, wordAt}
 use Rattle.diagram.proofs.evaluate.word.Statement.{statement}
@@ -27,46 +25,41 @@ small w v j b h g =
     let p : 2 ^ (j + 1) ≤ 2 ^ 8 = pow-le-pow-right {n = 2} (omega arith) {i = j + 1} {j = 8} (omega arith) in
     omega (arith, grown w v j b g)
 
-module _ (d : Diagram) (a j w v n : ℕ) (roots : List ℕ) where
-  one-more : d .contacts ≡ n → d .roots ≡ roots → w ≡ wordAt d (inputOf a) j → v ≡ path d (inputOf a) n 0 (getD roots j 0) →
-      w + v * 2 ^ j ≡ wordAt d (inputOf a) (j + 1)
-  unfolding wordAt valueAt root
-  one-more p q e f = rw (add-one j) (cc)
+one-more : (d : Diagram) (a j w v : ℕ) → w ≡ wordAt d (inputOf a) j → v ≡ path d (inputOf a) (d .contacts) 0 (root d j) →
+    w + v * 2 ^ j ≡ wordAt d (inputOf a) (j + 1)
+unfolding wordAt valueAt
+one-more d a j w v e f = rw (add-one j) (cc)
 
 abbrev Inv-loop : tie.InvT-loop
-Inv-loop input n roots edges word₀ j₀ j-end word j =
-    (j ≤ j-end) × (word + 255 ≤ 255 * 2 ^ j)
-    × ((d : Diagram) → d .contacts ≡ n → d .roots ≡ roots → d .edges ≡ edges → word ≡ wordAt d (inputOf input) j)
+Inv-loop input d n word₀ j₀ j-end word j =
+    (j ≤ j-end) × (word + 255 ≤ 255 * 2 ^ j) × (word ≡ wordAt d (inputOf input) j)
 
 abbrev μ-loop : tie.MeasureT-loop
-μ-loop input n roots edges word₀ j₀ j-end word j = j-end - j
+μ-loop input d n word₀ j₀ j-end word j = j-end - j
 
 loop-holds : tie.Need-loop-holds Inv-loop μ-loop
 unfolding wordAt
-loop-holds c = (omega arith, omega arith, λ d n r e. refl)
+loop-holds c = (omega arith, omega arith, refl)
 
-slice-aggregate-lead : tie.Need-slice-aggregate-lead Inv-loop μ-loop
-slice-aggregate-lead c = search needs
-
-array-read-lead : tie.Need-array-read-lead Inv-loop μ-loop
-array-read-lead c = search needs
+element-copy-out-node : tie.Need-element-copy-out-node Inv-loop μ-loop
+element-copy-out-node c = search needs
 
 lead-requires : tie.Need-lead-requires Inv-loop μ-loop
-lead-requires c κs = c .before .before .before .before .before .pre .contacts .1
+lead-requires c κs = c .before .before .before .before .before .before .pre .contacts .1
 
 cast-word : tie.Need-cast-word Inv-loop μ-loop
 cast-word c = omega (arith, c .lead .ok)
 
 cast-word-2 : tie.Need-cast-word-2 Inv-loop μ-loop
-cast-word-2 c = omega (arith, c .before .before .before .before .before .before .pre .outputs)
+cast-word-2 c = omega (arith, c .before .before .before .before .before .before .before .pre .outputs)
 
 shl-word : tie.Need-shl-word Inv-loop μ-loop
-shl-word c = omega (arith, c .before .before .before .before .before .before .pre .outputs)
+shl-word c = omega (arith, c .before .before .before .before .before .before .before .pre .outputs)
 
 add-word : tie.Need-add-word Inv-loop μ-loop
 add-word c =
-    let loop = c .before .before .before .loop in
-    let few : loop .j < 8 = omega (arith, c .before .before .before .before .before .before .pre .outputs) in
+    let loop = c .before .before .before .before .before .before .loop in
+    let few : loop .j < 8 = omega (arith, c .before .before .before .before .before .before .before .pre .outputs) in
     let byte : c .lead .result < 256 = omega (arith, c .lead .ok) in
     record { fits = rw (exact (c .lead .result) (loop .j) byte few) (small (loop .word) (c .lead .result) (loop .j) byte few (loop .inv .1)) }
 
@@ -77,22 +70,20 @@ loop-less : tie.Need-loop-less Inv-loop μ-loop
 loop-less c = search needs
 
 loop-again : tie.Need-loop-again Inv-loop μ-loop
+unfolding root
 loop-again c =
-    let a = c .before .before .before .before .before .before .args in
-    let loop = c .before .before .before .loop in
-    let few : loop .j < 8 = omega (arith, c .before .before .before .before .before .before .pre .outputs) in
+    let a = c .before .before .before .before .before .before .before .args in
+    let loop = c .before .before .before .before .before .before .loop in
+    let few : loop .j < 8 = omega (arith, c .before .before .before .before .before .before .before .pre .outputs) in
     let byte : c .lead .result < 256 = omega (arith, c .lead .ok) in
     let e = exact (c .lead .result) (loop .j) byte few in (
       omega arith,
       rw e (grown (loop .word) (c .lead .result) (loop .j) byte (loop .inv .1)),
-      λ d n r s. rw e (one-more d (a .input) (loop .j) (loop .word) (c .lead .result) (a .d .contacts) (a .d .roots) n r (loop .inv .2 d n r s) (c .lead .ensures d s)),
+      rw e (one-more (a .t1) (a .input) (loop .j) (loop .word) (c .lead .result) (loop .inv .2) (c .lead .ensures (a .t1) refl)),
     )
 
 returns : tie.Need-returns Inv-loop μ-loop
-returns c =
-    let d = c .before .before .before .before .args .d in
-    let loop = c .before .loop in
-    rw (le-antisymm (loop .inv .0) (c .loop-test .left)) at (loop .inv .2 d refl refl refl)
+returns c = rw (le-antisymm (c .before .loop .inv .0) (c .loop-test .left)) at (c .before .loop .inv .2)
 
 pub word-spec : {M : Type 1} → statement M
 word-spec =
@@ -101,8 +92,7 @@ word-spec =
     Inv-loop
     μ-loop
     loop-holds
-    slice-aggregate-lead
-    array-read-lead
+    element-copy-out-node
     lead-requires
     cast-word
     cast-word-2

@@ -13,38 +13,34 @@ use Rattle.diagram.proofs.sound.ask_branching.Statement.{statement}
 use Rattle.diagram.proofs.sound.ask_branching.Tie as tie
 
 abbrev Inv-loop : tie.InvT-loop
-Inv-loop widths edges l₀ l-end l = (l ≤ l-end) × (all l (forksAt widths edges) ≡ true)
+Inv-loop d l₀ l-end l = (l ≤ l-end) × (all l (forksAt (d .widths) (d .edges)) ≡ true)
 
 abbrev μ-loop : tie.MeasureT-loop
-μ-loop widths edges l₀ l-end l = l-end - l
+μ-loop d l₀ l-end l = l-end - l
 
 loop-holds : tie.Need-loop-holds Inv-loop μ-loop
 loop-holds c = (omega arith, all-none _)
 
-slice-aggregate-forks : tie.Need-slice-aggregate-forks Inv-loop μ-loop
-slice-aggregate-forks c = search needs
+mul-nodes : tie.Need-mul-nodes Inv-loop μ-loop
+mul-nodes c = search needs
+
+element-copy-out-nodes : tie.Need-element-copy-out-nodes Inv-loop μ-loop
+element-copy-out-nodes c = search needs
 
 mul-forks : tie.Need-mul-forks Inv-loop μ-loop
 mul-forks c = search needs
 
-mul-forks-2 : tie.Need-mul-forks-2 Inv-loop μ-loop
-mul-forks-2 c = search needs
-
-array-read-forks : tie.Need-array-read-forks Inv-loop μ-loop
-array-read-forks c = search needs
-
 forks-requires : tie.Need-forks-requires Inv-loop μ-loop
 forks-requires c κs =
-    let start = c .before .before .before .before .before in
-    let l = c .before .before .loop .l in
-    let w = width-small (start .args .d) (start .pre) l (c .before .loop-test .taken) in
-    omega (arith, start .pre .contacts, slice-aggregate-forks c)
+    let start = c .before .before .before .before .before .before in
+    let w = width-small (start .args .t1) (start .pre) (c .before .before .before .before .before .loop .l) (c .before .before .before .before .loop-test .taken) in
+    omega (arith, start .pre .contacts, c .forks-arg2 .given .0)
 
 returns : tie.Need-returns Inv-loop μ-loop
 returns c =
-    let loop = c .before .before .before .before .loop in
+    let loop = c .before .before .before .before .before .before .before .loop in
     let e = sym (c .before .forks .ensures) ∙ not-true _ (c .if1 .taken) in
-    branching-by (c .before .before .before .before .before .before .before .args .d) false (all-broken _ _ (loop .l) (c .before .before .before .loop-test .taken) e)
+    branching-by (c .before .before .before .before .before .before .before .before .args .t1) false (all-broken _ _ (loop .l) (c .before .before .before .before .before .before .loop-test .taken) e)
 
 add-l : tie.Need-add-l Inv-loop μ-loop
 add-l c = search needs
@@ -54,13 +50,13 @@ loop-less c = search needs
 
 loop-again : tie.Need-loop-again Inv-loop μ-loop
 loop-again c =
-    let loop = c .before .before .before .before .loop in
+    let loop = c .before .before .before .before .before .before .before .loop in
     (omega arith, all-more _ (loop .l) (loop .inv .1) (sym (c .before .forks .ensures) ∙ not-false _ (c .if1 .left)))
 
 returns-2 : tie.Need-returns-2 Inv-loop μ-loop
 returns-2 c =
     let loop = c .before .loop in
-    branching-by (c .before .before .before .before .args .d) true (all-end _ _ (loop .l) (loop .inv .0) (c .loop-test .left) (loop .inv .1))
+    branching-by (c .before .before .args .t1) true (all-end _ _ (loop .l) (loop .inv .0) (c .loop-test .left) (loop .inv .1))
 
 pub ask-branching-spec : {M : Type 1} → statement M
 ask-branching-spec =
@@ -69,10 +65,9 @@ ask-branching-spec =
     Inv-loop
     μ-loop
     loop-holds
-    slice-aggregate-forks
+    mul-nodes
+    element-copy-out-nodes
     mul-forks
-    mul-forks-2
-    array-read-forks
     forks-requires
     returns
     add-l

@@ -13,77 +13,63 @@ use Rattle.diagram.proofs.sound.ask_numbering.Statement.{statement}
 use Rattle.diagram.proofs.sound.ask_numbering.Tie as tie
 
 abbrev Inv-loop : tie.InvT-loop
-Inv-loop widths edges last l₀ l = (l ≤ last) × (all l (turnAt widths edges) ≡ true)
+Inv-loop d first last l₀ l = (l ≤ last) × (all l (turnAt (d .widths) (d .edges)) ≡ true)
 
 abbrev μ-loop : tie.MeasureT-loop
-μ-loop widths edges last l₀ l = last - l
+μ-loop d first last l₀ l = last - l
 
-slice-aggregate-in-turn : tie.Need-slice-aggregate-in-turn Inv-loop μ-loop
-slice-aggregate-in-turn c = search needs
-
-array-read-in-turn : tie.Need-array-read-in-turn Inv-loop μ-loop
-array-read-in-turn c = search needs
+element-copy-out-first : tie.Need-element-copy-out-first Inv-loop μ-loop
+element-copy-out-first c = search needs
 
 in-turn-requires : tie.Need-in-turn-requires Inv-loop μ-loop
-in-turn-requires c κs =
-    let start = c .before .before .before .before in
-    omega (arith, start .pre .outputs, slice-aggregate-in-turn c)
+in-turn-requires c κs = omega (arith, c .before .before .before .before .pre .outputs, c .in-turn-arg2 .given .0)
 
 returns : tie.Need-returns Inv-loop μ-loop
 returns c =
     let start = c .before .before .before .before .before .before in
-    numbering-by (start .args .d) (start .pre) false _ (sym (not-true _ (c .if1 .taken)) ∙ c .before .in-turn .ensures) refl
+    numbering-by (start .args .t1) (start .pre) false _ (sym (not-true _ (c .if1 .taken)) ∙ c .before .in-turn .ensures) refl
 
 sub-last : tie.Need-sub-last Inv-loop μ-loop
-sub-last c =
-    let start = c .before .before .before .before .before .before .before in
-    omega (arith, start .pre .contacts)
+sub-last c = search needs
 
 loop-holds : tie.Need-loop-holds Inv-loop μ-loop
 loop-holds c = (omega arith, all-none _)
 
-slice-aggregate-in-turn-2 : tie.Need-slice-aggregate-in-turn-2 Inv-loop μ-loop
-slice-aggregate-in-turn-2 c = search needs
+mul-nodes : tie.Need-mul-nodes Inv-loop μ-loop
+mul-nodes c = search needs
+
+element-copy-out-nodes : tie.Need-element-copy-out-nodes Inv-loop μ-loop
+element-copy-out-nodes c = search needs
+
+add-next : tie.Need-add-next Inv-loop μ-loop
+add-next c = search needs
+
+mul-next : tie.Need-mul-next Inv-loop μ-loop
+mul-next c = search needs
+
+element-copy-out-next : tie.Need-element-copy-out-next Inv-loop μ-loop
+element-copy-out-next c = search needs
 
 mul-in-turn : tie.Need-mul-in-turn Inv-loop μ-loop
 mul-in-turn c = search needs
 
 mul-in-turn-2 : tie.Need-mul-in-turn-2 Inv-loop μ-loop
-mul-in-turn-2 c = search needs
-
-array-read-in-turn-2 : tie.Need-array-read-in-turn-2 Inv-loop μ-loop
-array-read-in-turn-2 c = search needs
-
-mul-in-turn-3 : tie.Need-mul-in-turn-3 Inv-loop μ-loop
-mul-in-turn-3 c =
-    let start = c .before .before .before .before .before .before .before .before .before .before in
-    let turn = c .before in
-    omega (arith, start .pre .contacts, width-small (start .args .d) (start .pre) (turn .before .loop .l) (omega (arith, start .pre .contacts)))
-
-add-in-turn : tie.Need-add-in-turn Inv-loop μ-loop
-add-in-turn c = search needs
-
-mul-in-turn-4 : tie.Need-mul-in-turn-4 Inv-loop μ-loop
-mul-in-turn-4 c = search needs
-
-array-read-in-turn-3 : tie.Need-array-read-in-turn-3 Inv-loop μ-loop
-array-read-in-turn-3 c = search needs
+mul-in-turn-2 c =
+    let start = c .before .before .before .before .before .before .before .before .before .before .before .before .before in
+    omega (arith, width-small (start .args .t1) (start .pre) (c .before .before .before .before .before .before .loop .l) (omega (arith, start .pre .contacts)))
 
 in-turn-requires-2 : tie.Need-in-turn-requires-2 Inv-loop μ-loop
 in-turn-requires-2 c κs =
-    let start = c .before .before .before .before .before .before .before .before .before .before in
-    let turn = c .before in
-    let w = width-small (start .args .d) (start .pre) (turn .before .loop .l) (omega (arith, start .pre .contacts)) in
-    omega (arith, start .pre .contacts, slice-aggregate-in-turn-2 c)
+    let start = c .before .before .before .before .before .before .before .before .before .before .before .before .before in
+    let w = width-small (start .args .t1) (start .pre) (c .before .before .before .before .before .before .loop .l) (omega (arith, start .pre .contacts)) in
+    omega (arith, start .pre .contacts, c .in-turn-arg4 .given .0)
 
 returns-2 : tie.Need-returns-2 Inv-loop μ-loop
 returns-2 c =
-    let start = c .before .before .before .before .before .before .before .before .before .before .before .before in
-    let turn = c .before .before .before in
-    let loop = turn .before .loop in
-    let first = turn .before .before .before in
-    let e = all-broken _ _ (loop .l) (turn .loop-test .taken) (sym (c .before .in-turn2 .ensures) ∙ not-true _ (c .if2 .taken)) in
-    numbering-by (start .args .d) (start .pre) true false (sym (not-false _ (first .if1 .left)) ∙ first .before .in-turn .ensures) e
+    let start = c .before .before .before .before .before .before .before .before .before .before .before .before .before .before .before in
+    let first = c .before .before .before .before .before .before .before .before .before in
+    let e = all-broken _ _ (c .before .before .before .before .before .before .before .before .loop .l) (c .before .before .before .before .before .before .before .loop-test .taken) (sym (c .before .in-turn2 .ensures) ∙ not-true _ (c .if2 .taken)) in
+    numbering-by (start .args .t1) (start .pre) true false (sym (not-false _ (first .if1 .left)) ∙ first .before .in-turn .ensures) e
 
 add-l : tie.Need-add-l Inv-loop μ-loop
 add-l c = search needs
@@ -93,16 +79,16 @@ loop-less c = search needs
 
 loop-again : tie.Need-loop-again Inv-loop μ-loop
 loop-again c =
-    let loop = c .before .before .before .before .loop in
+    let loop = c .before .before .before .before .before .before .before .before .loop in
     (omega arith, all-more _ (loop .l) (loop .inv .1) (sym (c .before .in-turn2 .ensures) ∙ not-false _ (c .if2 .left)))
 
 returns-3 : tie.Need-returns-3 Inv-loop μ-loop
 returns-3 c =
-    let start = c .before .before .before .before .before .before .before .before .before in
+    let start = c .before .before .before .before .before .before .before .before in
+    let first = c .before .before in
     let loop = c .before .loop in
-    let first = c .before .before .before in
     let e = all-end _ _ (loop .l) (loop .inv .0) (c .loop-test .left) (loop .inv .1) in
-    numbering-by (start .args .d) (start .pre) true true (sym (not-false _ (first .if1 .left)) ∙ first .before .in-turn .ensures) e
+    numbering-by (start .args .t1) (start .pre) true true (sym (not-false _ (first .if1 .left)) ∙ first .before .in-turn .ensures) e
 
 pub ask-numbering-spec : {M : Type 1} → statement M
 ask-numbering-spec =
@@ -110,20 +96,18 @@ ask-numbering-spec =
     (tie.spec
     Inv-loop
     μ-loop
-    slice-aggregate-in-turn
-    array-read-in-turn
+    element-copy-out-first
     in-turn-requires
     returns
     sub-last
     loop-holds
-    slice-aggregate-in-turn-2
+    mul-nodes
+    element-copy-out-nodes
+    add-next
+    mul-next
+    element-copy-out-next
     mul-in-turn
     mul-in-turn-2
-    array-read-in-turn-2
-    mul-in-turn-3
-    add-in-turn
-    mul-in-turn-4
-    array-read-in-turn-3
     in-turn-requires-2
     returns-2
     add-l

@@ -13,38 +13,34 @@ use Rattle.diagram.proofs.sound.ask_twins.Statement.{statement}
 use Rattle.diagram.proofs.sound.ask_twins.Tie as tie
 
 abbrev Inv-loop : tie.InvT-loop
-Inv-loop widths edges l₀ l-end l = (l ≤ l-end) × (all l (unlikeAt widths edges) ≡ true)
+Inv-loop d l₀ l-end l = (l ≤ l-end) × (all l (unlikeAt (d .widths) (d .edges)) ≡ true)
 
 abbrev μ-loop : tie.MeasureT-loop
-μ-loop widths edges l₀ l-end l = l-end - l
+μ-loop d l₀ l-end l = l-end - l
 
 loop-holds : tie.Need-loop-holds Inv-loop μ-loop
 loop-holds c = (omega arith, all-none _)
 
-slice-aggregate-all-unlike : tie.Need-slice-aggregate-all-unlike Inv-loop μ-loop
-slice-aggregate-all-unlike c = search needs
+mul-nodes : tie.Need-mul-nodes Inv-loop μ-loop
+mul-nodes c = search needs
+
+element-copy-out-nodes : tie.Need-element-copy-out-nodes Inv-loop μ-loop
+element-copy-out-nodes c = search needs
 
 mul-all-unlike : tie.Need-mul-all-unlike Inv-loop μ-loop
 mul-all-unlike c = search needs
 
-mul-all-unlike-2 : tie.Need-mul-all-unlike-2 Inv-loop μ-loop
-mul-all-unlike-2 c = search needs
-
-array-read-all-unlike : tie.Need-array-read-all-unlike Inv-loop μ-loop
-array-read-all-unlike c = search needs
-
 all-unlike-requires : tie.Need-all-unlike-requires Inv-loop μ-loop
 all-unlike-requires c κs =
-    let start = c .before .before .before .before .before in
-    let l = c .before .before .loop .l in
-    let w = width-small (start .args .d) (start .pre) l (c .before .loop-test .taken) in
-    omega (arith, start .pre .contacts, slice-aggregate-all-unlike c)
+    let start = c .before .before .before .before .before .before in
+    let w = width-small (start .args .t1) (start .pre) (c .before .before .before .before .before .loop .l) (c .before .before .before .before .loop-test .taken) in
+    omega (arith, start .pre .contacts, c .all-unlike-arg2 .given .0)
 
 returns : tie.Need-returns Inv-loop μ-loop
 returns c =
-    let loop = c .before .before .before .before .loop in
+    let loop = c .before .before .before .before .before .before .before .loop in
     let e = sym (c .before .all-unlike .ensures) ∙ not-true _ (c .if1 .taken) in
-    twins-by (c .before .before .before .before .before .before .before .args .d) false (all-broken _ _ (loop .l) (c .before .before .before .loop-test .taken) e)
+    twins-by (c .before .before .before .before .before .before .before .before .args .t1) false (all-broken _ _ (loop .l) (c .before .before .before .before .before .before .loop-test .taken) e)
 
 add-l : tie.Need-add-l Inv-loop μ-loop
 add-l c = search needs
@@ -54,13 +50,13 @@ loop-less c = search needs
 
 loop-again : tie.Need-loop-again Inv-loop μ-loop
 loop-again c =
-    let loop = c .before .before .before .before .loop in
+    let loop = c .before .before .before .before .before .before .before .loop in
     (omega arith, all-more _ (loop .l) (loop .inv .1) (sym (c .before .all-unlike .ensures) ∙ not-false _ (c .if1 .left)))
 
 returns-2 : tie.Need-returns-2 Inv-loop μ-loop
 returns-2 c =
     let loop = c .before .loop in
-    twins-by (c .before .before .before .before .args .d) true (all-end _ _ (loop .l) (loop .inv .0) (c .loop-test .left) (loop .inv .1))
+    twins-by (c .before .before .args .t1) true (all-end _ _ (loop .l) (loop .inv .0) (c .loop-test .left) (loop .inv .1))
 
 pub ask-twins-spec : {M : Type 1} → statement M
 ask-twins-spec =
@@ -69,10 +65,9 @@ ask-twins-spec =
     Inv-loop
     μ-loop
     loop-holds
-    slice-aggregate-all-unlike
+    mul-nodes
+    element-copy-out-nodes
     mul-all-unlike
-    mul-all-unlike-2
-    array-read-all-unlike
     all-unlike-requires
     returns
     add-l
