@@ -2,6 +2,7 @@ pub mod Binding
 pub mod Cells
 pub mod Standing
 pub mod Writing
+pub mod Rooms
 pub mod WrittenEntries
 pub mod WrittenRows
 pub mod WrittenTerms

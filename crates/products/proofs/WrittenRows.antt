@@ -7,10 +7,10 @@ use lib.ListN.{length, getD, set}
 use Rattle.rules.specs.declared.Entry.{Entry}
 use Rattle.rules.specs.declared.Entry.the-variants.{Never}
 use Rattle.rules.specs.Blocks.{Matrix, entryAt, productEntry, product}
-use Rattle.products.specs.Written.{Written, rowOf, entryOf, RowStored, Stored}
+use Rattle.products.specs.Written.{Written, RoomFor, rowOf, entryOf, RowStored, Stored}
 use Rattle.products.proofs.Binding.{sequence-length}
 use Rattle.products.proofs.Cells.{row-none, row-more, row-same, rows-none, rows-more, stored-same, before-last, at-last}
-use Rattle.rules.proofs.Counts.{Most, weaken-count, sequence-count, entry-count}
+use Rattle.products.proofs.Rooms.{room-turn}
 use Rattle.products.proofs.Writing.{written-none, written-more, written-own}
 
 -- What holds after the first columns of a row.
@@ -39,17 +39,12 @@ module _ (middle : ℕ) (left right : Matrix) (u : ℕ) {first made : ℕ} {star
             (row-more x (row-same (t .stored) (before-last row e Never v size)) room (stands ∙ sym (at-last row e Never v size)));
       }
 
-row-count : (middle columns : ℕ) (left right : Matrix) (u : ℕ) → middle ≤ 8 →
-    Most (columns * 15) (rowOf middle left right columns u)
-unfolding rowOf
-row-count middle columns left right u narrow =
-    sequence-count (productEntry middle left right u) 15 (λ v.
-    weaken-count (entry-count middle left right u v) (λ k e le. omega arith)) columns 0
-
-module _ {middle : ℕ} {left right : Matrix} {u first made columns total : ℕ} {start out before cells : List ℕ}
-    (t : RowTurned middle left right u first made columns start out before cells total) (narrow : middle ≤ 8) where
-  pub row-few : total ≤ made + columns * 15
-  row-few = omega (arith, t .written .count, row-count middle columns left right u narrow .from (first + made))
+module _ {middle : ℕ} {left right : Matrix} {u first made v total : ℕ} {start out before cells : List ℕ}
+    (t : RowTurned middle left right u first made v start out before cells total) where
+  pub row-room : (columns : ℕ) → RoomFor (rowOf middle left right columns u) first made start → v < columns → length out ≡ length start →
+      RoomFor (productEntry middle left right u v) first total out
+  unfolding rowOf
+  row-room columns room h kept = room-turn (productEntry middle left right u) room h (t .written) kept
 
 -- What holds after the first rows of a product.
 pub record Turned (middle columns : ℕ) (left right : Matrix) (first made rows : ℕ) (start out cells : List ℕ) (total : ℕ) : Type 0 where
@@ -82,14 +77,9 @@ module _ (middle columns : ℕ) (left right : Matrix) {first made : ℕ} {start 
             (row-same r (λ v h. ap (λ (r : List Entry). getD r v Never) (sym (at-last rows row [] u size)))) few narrow);
       }
 
-module _ {middle columns : ℕ} {left right : Matrix} {first made rows total : ℕ} {start out cells : List ℕ}
-    (t : Turned middle columns left right first made rows start out cells total) (thin : middle ≤ 8) (narrow : columns ≤ 8) where
-  pub product-few : total ≤ made + rows * 120
+module _ {middle columns : ℕ} {left right : Matrix} {first made u total : ℕ} {start out cells : List ℕ}
+    (t : Turned middle columns left right first made u start out cells total) where
+  pub product-room : (rows : ℕ) → RoomFor (product rows middle columns left right) first made start → u < rows →
+      length out ≡ length start → RoomFor (rowOf middle left right columns u) first total out
   unfolding product rowOf
-  product-few =
-      omega (
-        arith,
-        t .written .count,
-        sequence-count (rowOf middle left right columns) 120 (λ u.
-            weaken-count (row-count middle columns left right u thin) (λ k e le. omega arith)) rows 0 .from (first + made),
-      )
+  product-room rows room h kept = room-turn (rowOf middle left right columns) room h (t .written) kept

@@ -9,9 +9,9 @@ use Rattle.rules.specs.declared.Entry.{Entry}
 use Rattle.rules.specs.declared.Entry.the-variants.{Never, Always, Line}
 use Rattle.rules.specs.Make.{Make, sequence}
 use Rattle.rules.specs.Blocks.{Matrix, entryAt, term, linesIn}
-use Rattle.products.specs.Written.{Written, termsOf, Collected}
-use Rattle.rules.proofs.Counts.{terms-count}
+use Rattle.products.specs.Written.{Written, RoomFor, termsOf, Collected}
 use Rattle.rules.proofs.Entries.{lines-few}
+use Rattle.products.proofs.Rooms.{room-turn}
 use Rattle.products.proofs.Writing.{written-none, written-more, written-own}
 
 pub lines-append : (xs ys : List Entry) → linesIn (xs ++ ys) ≡ linesIn xs ++ linesIn ys
@@ -62,19 +62,12 @@ module _ (left right : Matrix) (u v : ℕ) {first made : ℕ} {start : List ℕ}
             ∙ sym kept;
       }
 
--- No more ANDs are made than there are lines among the terms, and no more lines than terms.
-pub terms-few : (middle : ℕ) (left right : Matrix) (u v : ℕ) {first made total : ℕ} {start out : List ℕ} {ts : List Entry} →
-    Written (termsOf middle left right u v) first made start out ts total →
-    (total ≤ made + length (linesIn ts)) × (length (linesIn ts) ≤ middle)
-unfolding termsOf
-terms-few middle left right u v {first} {made} {ts = ts} w =
-    let few = terms-count (entryAt left u) (λ w. entryAt right w v) middle 0 .from (first + made) in
-    omega (arith, w .count, rw (← w .result) at few, lines-few ts)
-
 module _ {left right : Matrix} {u v first made w count total : ℕ} {start out lines : List ℕ}
     (t : Turned left right u v first made w start out lines count total) where
-  pub turned-few : total ≤ made + w
-  turned-few = omega (arith, terms-few w left right u v (t .written))
+  pub turned-room : (middle : ℕ) → RoomFor (termsOf middle left right u v) first made start → w < middle → length out ≡ length start →
+      RoomFor (term (entryAt left u w) (entryAt right w v)) first total out
+  unfolding termsOf
+  turned-room middle room h kept = room-turn (termAt left right u v) room h (t .written) kept
 
   pub turned-all : (middle : ℕ) → w ≡ middle → middle ≤ length lines →
       Written (termsOf middle left right u v) first made start out (termsOf middle left right u v (first + made) .1) total

@@ -1,17 +1,18 @@
 -- How code that writes gates one after another, and matrices to cells, meets the definitions that make them.
 use Prim.Native.Nat.{ℕ, zero, suc, _+_, _*_, _≤_, _<_, max}
 use mathlib.Core.Path.{_≡_}
-use mathlib.Core.Bool.{cond}
+use mathlib.Core.Bool.{Bool, cond}
 use mathlib.Core.List.{List, map, flatMap}
 use lib.Dec.{eqb}
 use lib.ListN.{length, getD, take, replicate}
 use lib.Seq.{sets}
+use Rattle.fields.specs.Bounded.{any}
 use Rattle.netlist.specs.Netlist.{gateBytes, gateAt, listed}
 use Rattle.simulation.specs.Run.{gate, workOut}
 use Rattle.rules.specs.declared.Entry.{Entry}
 use Rattle.rules.specs.declared.Entry.the-variants.{Never, Always, Line}
 use Rattle.rules.specs.Make.{Make, sequence}
-use Rattle.rules.specs.Blocks.{Matrix, entryAt, term, linesIn, productEntry}
+use Rattle.rules.specs.Blocks.{Matrix, entryAt, isAlways, term, linesIn, productEntry}
 
 -- With `made` gates already written and gate g on line first + g, the gates of m follow in the buffer, nothing else in it changes,
 -- the result is m's, and the number of gates made is counted on.
@@ -25,6 +26,10 @@ pub record Room (first made more : ℕ) (out : List ℕ) : Type 0 where
   pub lines : first + (made + more) ≤ 65536
   pub bytes : 5 * (made + more) ≤ length out
 
+-- Room for the gates of m.
+abbrev pub RoomFor : {A : Type 0} → Make A → ℕ → ℕ → List ℕ → Type 0
+RoomFor m first made out = Room first made (length (m (first + made) .0)) out
+
 -- The entry that a stored line stands for: 0 never, 1 always.
 abbrev pub entryOf : ℕ → Entry
 entryOf zero = Never
@@ -34,6 +39,10 @@ entryOf (suc (suc x)) = Line (suc (suc x))
 -- The matrix that 64 stored lines stand for, by rows of eight.
 unfoldable pub matrixOf : List ℕ → Matrix
 matrixOf cells = listed (λ u. listed (λ v. entryOf (getD cells (8 * u + v) 0)) 8 0) 8 0
+
+-- Whether some factor in row u is always.
+abbrev pub anyAlways : ℕ → Matrix → ℕ → Bool
+anyAlways middle left u = any middle (λ w. isAlways (entryAt left u w))
 
 -- The terms of an entry of a product, as they are made.
 unfoldable pub termsOf : ℕ → Matrix → Matrix → ℕ → ℕ → Make (List Entry)
@@ -69,3 +78,7 @@ unfoldable pub depthsFrom : List ℕ → ℕ → ℕ → List ℕ
 depthsFrom gates first count =
     workOut (record { op = λ k a b. suc (max a b); shows = λ x v. v; none = 0 }) (map gate (listed (gateAt gates) count 0))
     (replicate first 0)
+
+-- Every source of the gates is a line below its gate's own, where gate g is on line first + g.
+pub record Sourced (gates : List ℕ) (first count : ℕ) : Type 0 where
+  pub at : (g : ℕ) → g < count → (gateAt gates g .left < first + g) × (gateAt gates g .right < first + g)

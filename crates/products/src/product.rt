@@ -11,7 +11,7 @@ ghost use lib.ListN.{length, getD};
 ghost use lib.Seq.{sets};
 ghost use Rattle.fields.specs.Bounded.{any};
 ghost use Rattle.rules.specs.Blocks.{isAlways, entryAt, linesIn, productEntry, product};
-ghost use Rattle.products.specs.Written.{Written, Room, matrixOf, termsOf, rowOf, Collected, Stored, RowStored};
+ghost use Rattle.products.specs.Written.{Written, RoomFor, matrixOf, anyAlways, termsOf, rowOf, Collected, Stored, RowStored};
 
 // How many lines are among the terms, and the number of gates made so far.
 struct Found {
@@ -30,11 +30,28 @@ fn sure(left: Entry, right: Entry) -> bool
     }
 }
 
-// Whether some term of the entry in row u and column v is always.
-fn crosses(left: &[u16], right: &[u16], middle: usize, u: usize, v: usize) -> bool
+// Whether some factor in row u is always.
+fn any_always(left: &[u16], middle: usize, u: usize) -> bool
+    requires { ⌜ (middle ≤ 8) × (u < 8) × (64 ≤ length (now left)) ⌝ }
+    ensures { λ r. ⌜ r ≡ anyAlways middle (matrixOf (now (left .entry))) u ⌝ }
+{
+    for w in 0..middle {
+        if cell::is_always(cell::cell(left, u, w)) {
+            return true;
+        }
+    }
+    false
+}
+
+// Whether some term of the entry in row u and column v is always; `some` says whether a factor in row u is.
+fn crosses(left: &[u16], right: &[u16], middle: usize, u: usize, v: usize, some: bool) -> bool
     requires { ⌜ (middle ≤ 8) × (u < 8) × (v < 8) × (64 ≤ length (now left)) × (64 ≤ length (now right)) ⌝ }
+    requires { ⌜ some ≡ anyAlways middle (matrixOf (now left)) u ⌝ }
     ensures { λ r. ⌜ r ≡ any middle (λ w. isAlways (entryAt (matrixOf (now (left .entry))) u w) && isAlways (entryAt (matrixOf (now (right .entry))) w v)) ⌝ }
 {
+    if !some {
+        return false;
+    }
     for w in 0..middle {
         let factor = cell::cell(left, u, w);
         if sure(factor, cell::cell(right, w, v)) {
@@ -72,7 +89,7 @@ fn terms(
     made: usize,
 ) -> Found
     requires { ⌜ (middle ≤ 8) × (u < 8) × (v < 8) × (64 ≤ length (now left)) × (64 ≤ length (now right)) × (middle ≤ length (now lines)) ⌝ }
-    requires { ⌜ Room first made middle (now out) ⌝ }
+    requires { ⌜ RoomFor (termsOf middle (matrixOf (now left)) (matrixOf (now right)) u v) first made (now out) ⌝ }
     ensures { λ r. ⌜ Written (termsOf middle (matrixOf (now (left .entry))) (matrixOf (now (right .entry))) u v) first made (now (out .entry)) (now (out .exit)) (termsOf middle (matrixOf (now (left .entry))) (matrixOf (now (right .entry))) u v (first + made) .1) (r .made) ⌝ }
     ensures { λ r. ⌜ Collected (termsOf middle (matrixOf (now (left .entry))) (matrixOf (now (right .entry))) u v (first + made) .1) (now (lines .exit)) (r .count) ⌝ }
 {
@@ -91,22 +108,25 @@ fn terms(
     }
 }
 
-// The entry in row u and column v: always if a term is, else the OR tree of the terms that are lines.
+// The entry in row u and column v: always if a term is, else the OR tree of the terms that are lines. `some` says whether a factor
+// in row u is always.
 fn entry(
     left: &[u16],
     right: &[u16],
     middle: usize,
     u: usize,
     v: usize,
+    some: bool,
     out: &mut [u8],
     first: usize,
     made: usize,
 ) -> Joined
     requires { ⌜ (middle ≤ 8) × (u < 8) × (v < 8) × (64 ≤ length (now left)) × (64 ≤ length (now right)) ⌝ }
-    requires { ⌜ Room first made 15 (now out) ⌝ }
+    requires { ⌜ some ≡ anyAlways middle (matrixOf (now left)) u ⌝ }
+    requires { ⌜ RoomFor (productEntry middle (matrixOf (now left)) (matrixOf (now right)) u v) first made (now out) ⌝ }
     ensures { λ r. ⌜ Written (productEntry middle (matrixOf (now (left .entry))) (matrixOf (now (right .entry))) u v) first made (now (out .entry)) (now (out .exit)) (r .entry) (r .made) ⌝ }
 {
-    if crosses(left, right, middle, u, v) {
+    if crosses(left, right, middle, u, v, some) {
         return Joined {
             entry: Entry::Always,
             made: made,
@@ -120,10 +140,16 @@ fn entry(
             made: found.made,
         };
     }
-    let tree = join::or_tree(&lines, 0, found.count, out, first, found.made);
+    if found.count == 1 {
+        return Joined {
+            entry: Entry::Line(lines[0]),
+            made: found.made,
+        };
+    }
+    let root = join::or_tree(&lines, 0, found.count, out, first, found.made);
     Joined {
-        entry: Entry::Line(tree.line),
-        made: tree.made,
+        entry: Entry::Line(root),
+        made: found.made + found.count - 1,
     }
 }
 
@@ -140,13 +166,14 @@ fn row(
     made: usize,
 ) -> usize
     requires { ⌜ (middle ≤ 8) × (columns ≤ 8) × (u < 8) × (64 ≤ length (now left)) × (64 ≤ length (now right)) × (64 ≤ length (now cells)) ⌝ }
-    requires { ⌜ (2 ≤ first) × Room first made 120 (now out) ⌝ }
+    requires { ⌜ (2 ≤ first) × RoomFor (rowOf middle (matrixOf (now left)) (matrixOf (now right)) columns u) first made (now out) ⌝ }
     ensures { λ r. ⌜ Written (rowOf middle (matrixOf (now (left .entry))) (matrixOf (now (right .entry))) columns u) first made (now (out .entry)) (now (out .exit)) (rowOf middle (matrixOf (now (left .entry))) (matrixOf (now (right .entry))) columns u (first + made) .1) r ⌝ }
     ensures { λ r. ⌜ RowStored (now (cells .entry)) (now (cells .exit)) u columns (λ v. getD (rowOf middle (matrixOf (now (left .entry))) (matrixOf (now (right .entry))) columns u (first + made) .1) v Entry.Never) ⌝ }
 {
+    let some = any_always(left, middle, u);
     let mut total = made;
     for v in 0..columns {
-        let joined = entry(left, right, middle, u, v, out, first, total);
+        let joined = entry(left, right, middle, u, v, some, out, first, total);
         let found = joined.entry;
         cells[8 * u + v] = cell::line_of(found);
         total = joined.made;
@@ -167,7 +194,7 @@ pub fn multiply(
     made: usize,
 ) -> usize
     requires { ⌜ (rows ≤ 8) × (middle ≤ 8) × (columns ≤ 8) × (64 ≤ length (now left)) × (64 ≤ length (now right)) × (64 ≤ length (now cells)) ⌝ }
-    requires { ⌜ (2 ≤ first) × Room first made 960 (now out) ⌝ }
+    requires { ⌜ (2 ≤ first) × RoomFor (product rows middle columns (matrixOf (now left)) (matrixOf (now right))) first made (now out) ⌝ }
     ensures { λ r. ⌜ Written (product rows middle columns (matrixOf (now (left .entry))) (matrixOf (now (right .entry)))) first made (now (out .entry)) (now (out .exit)) (product rows middle columns (matrixOf (now (left .entry))) (matrixOf (now (right .entry))) (first + made) .1) r ⌝ }
     ensures { λ r. ⌜ Stored (now (cells .exit)) (entryAt (product rows middle columns (matrixOf (now (left .entry))) (matrixOf (now (right .entry))) (first + made) .1)) rows columns ⌝ }
 {

@@ -100,9 +100,3 @@ product-within w rows middle columns left right hr hm hc =
     weaken-count (product-count rows middle columns left right) (λ k m le.
     let most : rows * (columns * (2 * middle - 1)) ≤ w * (w * (2 * w - 1)) = mul-le-mul hr (mul-le-mul hc (omega arith)) in
     omega (arith, mul-assoc w w (2 * w - 1)))
-
--- Where no level has more than 8 nodes, a product makes at most 960 gates.
-pub product-most : (rows middle columns : ℕ) (left right : Matrix) (next : ℕ) → rows ≤ 8 → middle ≤ 8 → columns ≤ 8 →
-    length (product rows middle columns left right next .0) ≤ 960
-product-most rows middle columns left right next hr hm hc =
-    product-within 8 rows middle columns left right hr hm hc .from next

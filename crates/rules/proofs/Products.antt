@@ -26,6 +26,18 @@ none-at p n e i h = go (p i) refl
 abbrev pub sure : Matrix → Matrix → ℕ → ℕ → ℕ → Bool
 sure left right u v w = isAlways (entryAt left u w) && isAlways (entryAt right w v)
 
+-- No term is always where no left factor is.
+pub none-sure : (middle : ℕ) (left right : Matrix) (u v : ℕ) → any middle (λ w. isAlways (entryAt left u w)) ≡ false →
+    any middle (sure left right u v) ≡ false
+none-sure middle left right u v e = go (any middle (sure left right u v)) refl
+  where
+    go : (b : Bool) → any middle (sure left right u v) ≡ b → b ≡ false
+    go true q =
+        let (w, h, a) = any-found (sure left right u v) middle q in
+        let (l, r) = both (isAlways (entryAt left u w)) (isAlways (entryAt right w v)) a in
+        absurd (true≢false (sym (any-at (λ w. isAlways (entryAt left u w)) middle w h l) ∙ e))
+    go false q = refl
+
 module _ (middle : ℕ) (left right : Matrix) (u v : ℕ) where
   pub entry-always : any middle (sure left right u v) ≡ true → productEntry middle left right u v ≡ return Always
   unfolding productEntry

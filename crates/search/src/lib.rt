@@ -1,7 +1,9 @@
-// The search for the smallest code input that betrays a stuck line.
+// The search for the smallest code input that betrays a stuck line, two words of 64 inputs a pass.
+mod inputs;
+mod passes;
 mod words;
 
-pub use words::lowest;
+pub use inputs::lowest;
+pub use inputs::search;
 pub use words::number_at;
-pub use words::search;
 pub use words::value_at;

@@ -5,4 +5,3 @@ pub mod WrittenPairs
 pub mod Scans
 pub mod Files
 pub mod Services
-pub mod WrittenDepth

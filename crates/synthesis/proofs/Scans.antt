@@ -6,7 +6,7 @@ use native.Mathlib.Omega.{arith}
 use mathlib.Core.Path.{_≡_, refl, sym, ap, ap₂, _∙_}
 use mathlib.Core.List.{List, [], _∷_, _++_, map, map-append, append-assoc, append-nil}
 use lib.ListN.{length, getD, take, set, replicate}
-use lib.Seq.{take-suc-set}
+use lib.Seq.{take-suc-set, getD-take}
 use Rattle.fields.specs.Fields.{numberOf}
 use Rattle.netlist.specs.declared.Gate.{Gate}
 use Rattle.netlist.specs.Netlist.{gateAt, listed}
@@ -14,7 +14,7 @@ use Rattle.simulation.specs.Run.{Driver, Rule, rail, gate, drive, workOut}
 use Rattle.netlist.proofs.Lists.{listed-more}
 use Rattle.simulation.proofs.Runs.{run-append, run-more}
 use Rattle.rules.specs.Board.{largest, depthsOf, depthOf}
-use Rattle.products.specs.Written.{depthsFrom}
+use Rattle.products.specs.Written.{depthsFrom, Sourced}
 
 largest-more : (xs : List ℕ) (y : ℕ) → largest (xs ++ (y ∷ [])) ≡ max (largest xs) y
 largest-more [] y = omega arith
@@ -48,16 +48,28 @@ module _ (gates : List ℕ) (first : ℕ) where
       (ap (map gate) (listed-more (gateAt gates) g) ∙ map-append gate (listed (gateAt gates) g 0) (gateAt gates g ∷ []))
       ∙ run-more rule (map gate (listed (gateAt gates) g 0)) (gate (gateAt gates g)) (replicate first 0)
 
--- The depth of gate g, as it is worked out from its bytes.
-pub gate-depth : (gates ws : List ℕ) (g : ℕ) {a b left right m : ℕ} → a ≡ numberOf (getD gates (5 * g + 1) 0) (getD gates (5 * g + 2) 0) →
-    b ≡ numberOf (getD gates (5 * g + 3) 0) (getD gates (5 * g + 4) 0) → left ≡ getD ws a 0 → right ≡ getD ws b 0 →
-    m ≡ max left right → m + 1 ≡ deeper ws (gateAt gates g)
-gate-depth gates ws g {a} {b} {m = m} ea eb el er em =
-    let at-two : 5 * g + 2 ≡ 5 * g + 1 + 1 = omega arith in
-    let at-four : 5 * g + 4 ≡ 5 * g + 3 + 1 = omega arith in
-    let first : a ≡ gateAt gates g .left = rw at-two at ea in
-    let second : b ≡ gateAt gates g .right = rw at-four at eb in
-    add-one m ∙ ap suc (em ∙ ap₂ max (el ∙ ap (λ (i : ℕ). getD ws i 0) first) (er ∙ ap (λ (i : ℕ). getD ws i 0) second))
+-- Gate g's sources, read from its bytes, and its depth, given the depths of the lines below its own.
+module _ (gates : List ℕ) (g : ℕ) {first count : ℕ} (s : Sourced gates first count) (h : g < count) where
+  left-is : {a : ℕ} → a ≡ numberOf (getD gates (5 * g + 1) 0) (getD gates (5 * g + 2) 0) → a ≡ gateAt gates g .left
+  left-is e = let at-two : 5 * g + 2 ≡ 5 * g + 1 + 1 = omega arith in rw at-two at e
+
+  right-is : {b : ℕ} → b ≡ numberOf (getD gates (5 * g + 3) 0) (getD gates (5 * g + 4) 0) → b ≡ gateAt gates g .right
+  right-is e = let at-four : 5 * g + 4 ≡ 5 * g + 3 + 1 = omega arith in rw at-four at e
+
+  pub left-below : {a : ℕ} → a ≡ numberOf (getD gates (5 * g + 1) 0) (getD gates (5 * g + 2) 0) → a < first + g
+  left-below e = rw (left-is e) (s .at g h .0)
+
+  pub right-below : {b : ℕ} → b ≡ numberOf (getD gates (5 * g + 3) 0) (getD gates (5 * g + 4) 0) → b < first + g
+  right-below e = rw (right-is e) (s .at g h .1)
+
+  pub gate-depth : {a b m : ℕ} (depths : List ℕ) → a ≡ numberOf (getD gates (5 * g + 1) 0) (getD gates (5 * g + 2) 0) →
+      b ≡ numberOf (getD gates (5 * g + 3) 0) (getD gates (5 * g + 4) 0) → m ≡ max (getD depths a 0) (getD depths b 0) →
+      m + 1 ≡ deeper (take (first + g) depths) (gateAt gates g)
+  gate-depth {a} {b} {m} depths ea eb e =
+      let ws = take (first + g) depths in
+      let left = sym (getD-take (first + g) depths a 0 (left-below ea)) ∙ ap (λ (i : ℕ). getD ws i 0) (left-is ea) in
+      let right = sym (getD-take (first + g) depths b 0 (right-below eb)) ∙ ap (λ (i : ℕ). getD ws i 0) (right-is eb) in
+      add-one m ∙ ap suc (e ∙ ap₂ max left right)
 
 -- What holds after the first gates: their depths are known, and the largest.
 pub record Scanned (gates : List ℕ) (first g : ℕ) (depths : List ℕ) (deepest : ℕ) : Type 0 where
@@ -74,8 +86,11 @@ scan-none gates depths first e =
     }
 
 module _ {gates : List ℕ} {first g : ℕ} {depths : List ℕ} {deepest : ℕ} (s : Scanned gates first g depths deepest) where
-  pub scan-few : (line : ℕ) → getD (take (first + g) depths) line 0 ≤ g
+  scan-few : (line : ℕ) → getD (take (first + g) depths) line 0 ≤ g
   scan-few line = rw (s .known) (omega (arith, largest-at (depthsFrom gates first g) line, s .top, s .few))
+
+  pub scan-low : (x : ℕ) → x ≡ deeper (take (first + g) depths) (gateAt gates g) → x ≤ g + 1
+  scan-low x e = omega (arith, e, scan-few (gateAt gates g .left), scan-few (gateAt gates g .right))
 
   pub scan-more : (x next : ℕ) → first + g < length depths → x ≡ deeper (take (first + g) depths) (gateAt gates g) →
       next ≡ max deepest x → Scanned gates first (g + 1) (set depths (first + g) x) next

@@ -3,8 +3,8 @@ use Prim.Native.Nat.{ℕ, zero, suc, _+_, _*_, _≤_}
 use native.Mathlib.Omega.{arith}
 use mathlib.Core.Path.{_≡_, refl, sym, ap, ap₂, _∙_}
 use mathlib.Core.Bool.{true}
-use mathlib.Core.List.{List, [], flatMap}
-use lib.ListN.{length, take}
+use mathlib.Core.List.{List, [], _∷_, flatMap}
+use lib.ListN.{length, getD, take}
 use lib.Seq.{sets}
 use Rattle.fields.specs.Header.{firstNo}
 use Rattle.diagram.specs.declared.Diagram.{Diagram}
@@ -13,17 +13,23 @@ use Rattle.diagram.specs.Questions.{Sized, inRange}
 use Rattle.table.specs.Table.{tableRefusal, tableOf, diagramIn}
 use Rattle.table.proofs.Tables.{table-refusal, table-accepted, table-diagram}
 use Rattle.netlist.specs.declared.Gate.{Gate}
+use Rattle.netlist.specs.declared.drive.Room.{Room}
 use Rattle.netlist.specs.declared.drive.Room.the-variants.{Enough, Short}
-use Rattle.netlist.specs.Netlist.{Netlist, gateAt, listed, gateBytes, pairBytes, fileOf}
-use Rattle.netlist.specs.Questions.{roomOf}
+use Rattle.netlist.specs.Netlist.{Netlist, gateLine, gateAt, listed, gateBytes, pairBytes, fileOf}
+use Rattle.netlist.specs.Questions.{roomOf, roomNumber}
 use Rattle.simulation.specs.Service.{over}
 use Rattle.netlist.proofs.Files.{file-length, length-gate-bytes, length-pair-bytes}
+use Rattle.synthesis.specs.declared.service.Checked.{Checked}
 use Rattle.rules.specs.Board.{boardOf, depthsOf, depthOf, tableBoard}
-use Rattle.synthesis.specs.Service.{checkedOr, checkedOf, fileWith, buildRefusal, buildingOf}
+use Rattle.synthesis.specs.Service.{checkedOr, checkedOf, fileWith, buildRefusal, writingOf, buildingOf}
 use Rattle.rules.proofs.Bounds.{sized-narrow, gates-most}
+use Rattle.products.specs.Written.{Sourced}
+use Rattle.products.proofs.Cells.{listed-from}
 use Rattle.rules.proofs.Depths.{depth-most}
 use Rattle.synthesis.proofs.Files.{taken-back, gates-read, file-of}
+use Rattle.rules.proofs.Makes.{anyGate}
 use Rattle.rules.proofs.Pairs.{pairs-length}
+use Rattle.rules.proofs.Wired.{gates-wired}
 
 -- The diagram read from a table that is not refused.
 pub record Unrefused (table : List ℕ) (d : Diagram) : Type 0 where
@@ -32,6 +38,11 @@ pub record Unrefused (table : List ℕ) (d : Diagram) : Type 0 where
   pub sized : Sized d
   pub ranged : inRange d ≡ true
   pub few : length (boardOf d .gates) ≤ 10560
+
+last-no : (r : Room) → firstNo (roomNumber r ∷ []) ≡ roomNumber r
+unfolding firstNo
+last-no Enough = refl
+last-no Short = refl
 
 refused-check : (k : ℕ) (net : Netlist) → (k ≡ 0 → ⊥) →
     record { refusal = k; contacts = 0; outputs = 0; gates = 0; depth = 0 } ≡ checkedOr k net
@@ -79,15 +90,31 @@ module _ (table : List ℕ) {t : Table} (e : t ≡ tableOf table) where
   pub build-refused : (buffer : List ℕ) → (t .refusal ≡ 0 → ⊥) → Builds table buffer (t .refusal) 0 buffer
   build-refused buffer h = refused-build table buffer (t .refusal) (sym refusal-is) h
 
--- Once the table has its yes and its board is made.
-module _ {table : List ℕ} {d : Diagram} (u : Unrefused table d) {made : ℕ} (count : made ≡ length (boardOf d .gates)) where
-  board-is : boardOf d ≡ tableBoard table
-  board-is = ap boardOf (u .is)
+-- What build leaves of a board.
+abbrev pub Writes : Netlist → List ℕ → ℕ → ℕ → List ℕ → Type 0
+Writes net buffer k n after =
+    (k ≡ writingOf net buffer .refusal) × ((n ≡ writingOf net buffer .length) × (after ≡ writingOf net buffer .file))
 
-  module _ (room : List ℕ) {gates : List ℕ} (wide : 52800 ≤ length room)
+-- The board of a diagram, made in buffers with room for it.
+module _ (d : Diagram) (sized : Sized d) {made : ℕ} (count : made ≡ length (boardOf d .gates)) where
+  pub gates-few : made ≤ 10560
+  gates-few = rw count (gates-most d (sized .contacts .0) (sized .contacts .1) (sized-narrow d sized))
+
+  module _ (room : List ℕ) {gates : List ℕ} (wide : 5 * length (boardOf d .gates) ≤ length room)
       (written : gates ≡ sets room 0 (flatMap gateBytes (boardOf d .gates))) where
     gates-are : listed (gateAt gates) made 0 ≡ boardOf d .gates
-    gates-are = rw (count, written) (gates-read (boardOf d .gates) room (omega (arith, u .few)))
+    gates-are = rw (count, written) (gates-read (boardOf d .gates) room wide)
+
+    pub sourced : Sourced gates (gateLine (d .contacts)) made
+    sourced =
+        record {
+          at = λ g h.
+              let at = sym (listed-from (gateAt gates) anyGate made g h) ∙ ap (λ (gs : List Gate). getD gs g anyGate) gates-are in
+              let wired = gates-wired d (sized .contacts .0) g (omega arith) in
+              let left = ap (λ (x : Gate). x .left) at in
+              let right = ap (λ (x : Gate). x .right) at in
+              (omega arith, omega arith);
+        }
 
     module _ {depth : ℕ}
         (e : depth ≡ depthOf (record { contacts = d .contacts; gates = listed (gateAt gates) made 0; pairs = [] })) where
@@ -96,32 +123,26 @@ module _ {table : List ℕ} {d : Diagram} (u : Unrefused table d) {made : ℕ} (
       depth-is = e ∙ ap (λ (gs : List Gate). depthOf (record { contacts = d .contacts; gates = gs; pairs = [] })) gates-are
 
       pub depth-low : depth ≤ 16
-      depth-low = rw depth-is (depth-most d (u .sized .contacts .0) (u .sized .contacts .1) (sized-narrow d (u .sized)))
+      depth-low = rw depth-is (depth-most d (sized .contacts .0) (sized .contacts .1) (sized-narrow d sized))
 
-      own : record { refusal = 0; contacts = d .contacts; outputs = d .outputs; gates = made; depth = depth } ≡ checkedOr 0 (boardOf d)
+      pub measured : record { refusal = 0; contacts = d .contacts; outputs = d .outputs; gates = made; depth = depth } ≡ checkedOr 0 (boardOf d)
       unfolding boardOf
-      own i = record { refusal = 0; contacts = d .contacts; outputs = sym (pairs-length d) i; gates = count i; depth = depth-is i }
+      measured i = record { refusal = 0; contacts = d .contacts; outputs = sym (pairs-length d) i; gates = count i; depth = depth-is i }
 
-      pub check-done : record { refusal = 0; contacts = d .contacts; outputs = d .outputs; gates = made; depth = depth } ≡ checkedOf table
-      unfolding checkedOf
-      check-done =
-          own ∙ ap (checkedOr 0) board-is ∙ ap (λ (k : ℕ). checkedOr k (tableBoard table)) (sym (u .yes))
-
-  -- The file's length, and the file itself as gates and pairs taken from the two wide buffers that they are written to.
-  pub size-is : 10 + 5 * made + 4 * d .outputs ≡ length (fileOf (tableBoard table))
-  size-is =
+  -- The file's length, and the file itself as gates and pairs taken from the two buffers that they are written to.
+  length-is : 10 + 5 * made + 4 * d .outputs ≡ length (fileOf (boardOf d))
+  length-is =
       let l = file-length (boardOf d) in
       let p = pairs-length d in
-      rw (← board-is) (omega arith)
+      omega arith
 
-  pub file-is : (room space : List ℕ) {gates pairs : List ℕ} → 52800 ≤ length room → 32 ≤ length space →
+  pub file-is : (room space : List ℕ) {gates pairs : List ℕ} → 5 * length (boardOf d .gates) ≤ length room → 32 ≤ length space →
       gates ≡ sets room 0 (flatMap gateBytes (boardOf d .gates)) →
       pairs ≡ sets space 0 (flatMap pairBytes (boardOf d .pairs)) →
-      fileWith (d .contacts) (take (5 * made) gates) (take (4 * d .outputs) pairs) ≡ fileOf (tableBoard table)
+      fileWith (d .contacts) (take (5 * made) gates) (take (4 * d .outputs) pairs) ≡ fileOf (boardOf d)
   unfolding boardOf
   file-is room space {gates} {pairs} wide ample g p =
-      let few = u .few in
-      let m = u .sized .outputs in
+      let m = sized .outputs in
       let gs = flatMap gateBytes (boardOf d .gates) in
       let ps = flatMap pairBytes (boardOf d .pairs) in
       let gate-count = length-gate-bytes (boardOf d .gates) in
@@ -129,19 +150,36 @@ module _ {table : List ℕ} {d : Diagram} (u : Unrefused table d) {made : ℕ} (
       let outputs = pairs-length d in
       let first : take (5 * made) gates ≡ gs = rw g (taken-back gs room (omega arith) (5 * made) (omega arith)) in
       let second : take (4 * d .outputs) pairs ≡ ps = rw p (taken-back ps space (omega arith) (4 * d .outputs) (omega arith)) in
-      ap₂ (fileWith (d .contacts)) first second ∙ file-of (boardOf d) ∙ ap fileOf board-is
+      ap₂ (fileWith (d .contacts)) first second ∙ file-of (boardOf d)
 
   module _ (buffer : List ℕ) where
-    pub build-short : roomOf (10 + 5 * made + 4 * d .outputs) (length buffer) ≡ Short → Builds table buffer 9 0 buffer
-    unfolding buildingOf buildRefusal firstNo
-    build-short e =
-        let short : roomOf (length (fileOf (tableBoard table))) (length buffer) ≡ Short = rw size-is at e in
-        rw (u .yes, short) (refl, (refl, refl))
+    pub write-short : {k n : ℕ} → (k ≡ 9) × (n ≡ 0) → roomOf (10 + 5 * made + 4 * d .outputs) (length buffer) ≡ Short →
+        Writes (boardOf d) buffer k n buffer
+    write-short a e =
+        let short : roomOf (length (fileOf (boardOf d))) (length buffer) ≡ Short = rw length-is at e in
+        rw short (a .0, (a .1, refl))
 
-    pub build-done : {after whole : List ℕ} → whole ≡ fileOf (tableBoard table) →
+    pub write-done : {after whole : List ℕ} → whole ≡ fileOf (boardOf d) →
         roomOf (10 + 5 * made + 4 * d .outputs) (length buffer) ≡ Enough → after ≡ over whole buffer →
-        Builds table buffer 0 (10 + 5 * made + 4 * d .outputs) after
-    unfolding buildingOf buildRefusal firstNo
-    build-done w e a =
-        let enough : roomOf (length (fileOf (tableBoard table))) (length buffer) ≡ Enough = rw size-is at e in
-        rw (u .yes, enough) (refl, (size-is, a ∙ ap (λ (ws : List ℕ). over ws buffer) w))
+        Writes (boardOf d) buffer 0 (10 + 5 * made + 4 * d .outputs) after
+    write-done w e a =
+        let enough : roomOf (length (fileOf (boardOf d))) (length buffer) ≡ Enough = rw length-is at e in
+        rw enough (refl, (length-is, a ∙ ap (λ (ws : List ℕ). over ws buffer) w))
+
+-- Once the table has its yes, the answers are those of its diagram's board.
+module _ {table : List ℕ} {d : Diagram} (u : Unrefused table d) where
+  board-is : boardOf d ≡ tableBoard table
+  board-is = ap boardOf (u .is)
+
+  pub size-is : {made : ℕ} → made ≡ length (boardOf d .gates) → 10 + 5 * made + 4 * d .outputs ≡ length (fileOf (tableBoard table))
+  size-is count = length-is d (u .sized) count ∙ ap (λ (net : Netlist). length (fileOf net)) board-is
+
+  pub check-done : {t : Checked} → t ≡ checkedOr 0 (boardOf d) → t ≡ checkedOf table
+  unfolding checkedOf
+  check-done e = e ∙ ap (checkedOr 0) board-is ∙ ap (λ (k : ℕ). checkedOr k (tableBoard table)) (sym (u .yes))
+
+  pub build-done : (buffer : List ℕ) {k n : ℕ} {after : List ℕ} → Writes (boardOf d) buffer k n after → Builds table buffer k n after
+  unfolding buildingOf buildRefusal firstNo
+  build-done buffer w =
+      let room = roomOf (length (fileOf (tableBoard table))) (length buffer) in
+      rw (u .yes, last-no room) (rw board-is at w)

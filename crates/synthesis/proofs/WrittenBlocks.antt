@@ -4,22 +4,22 @@ use native.Mathlib.Omega.{arith}
 use mathlib.Core.Path.{_≡_, refl, sym, ap₂}
 use mathlib.Core.Bool.{Bool, true, false, _&&_, _||_}
 use mathlib.Core.List.{List}
+use lib.ListN.{length}
 use Rattle.fields.specs.Bounded.{any}
 use Rattle.diagram.specs.declared.Diagram.{Diagram}
 use Rattle.diagram.specs.Diagram.{width}
-use Rattle.diagram.specs.Questions.{Sized}
 use Rattle.rules.specs.declared.Entry.{Entry}
 use Rattle.rules.specs.declared.Entry.the-variants.{Always}
 use Rattle.rules.specs.Make.{Make, return, _>>=_}
 use Rattle.rules.specs.Blocks.{Matrix, entryAt, isAlways, term, linesIn, joined, cut, productEntry, product, levelEntry, block}
-use Rattle.products.specs.Written.{Written, matrixOf, Stored}
+use Rattle.products.specs.Written.{Written, RoomFor, matrixOf, Stored}
 use Rattle.products.proofs.Binding.{sequence-same}
-use Rattle.rules.proofs.Bounds.{block-count, sized-narrow}
 use Rattle.products.proofs.Cells.{stored-same}
 use Rattle.rules.proofs.Cuts.{size-cut}
 use Rattle.rules.proofs.Halves.{cut-single, cut-halves}
 use Rattle.synthesis.proofs.Levels.{levelOf, level-listed, level-at}
 use Rattle.rules.proofs.Products.{sure}
+use Rattle.products.proofs.Rooms.{room-first, room-then}
 use Rattle.products.proofs.Writing.{written-return, written-bind, written-own}
 
 any-same : (p q : ℕ → Bool) (n : ℕ) → ((i : ℕ) → i < n → p i ≡ q i) → any n p ≡ any n q
@@ -63,6 +63,20 @@ Built d l count first made start out cells total =
     Written (block d (cut count) l) first made start out (block d (cut count) l (first + made) .1) total
     × Stored cells (entryAt (block d (cut count) l (first + made) .1)) (width d l) (width d (l + count))
 
+-- The product of the two stored matrices is that of the two blocks.
+product-is : (d : Diagram) (l count : ℕ) {first made n k : ℕ} {start between later left right : List ℕ} →
+    Built d l ((count + 1) / 2) first made start between left n →
+    Built d (l + (count + 1) / 2) (count - (count + 1) / 2) first n between later right k →
+    product (width d l) (width d (l + (count + 1) / 2)) (width d (l + count)) (matrixOf left) (matrixOf right)
+    ≡ product (width d l) (width d (l + (count + 1) / 2)) (width d (l + count)) (block d (cut ((count + 1) / 2)) l (first + made) .1)
+    (block d (cut (count - (count + 1) / 2)) (l + (count + 1) / 2) (first + n) .1)
+product-is d l count {first} {made} {n} {left = left} {right = right} a b =
+    let half = (count + 1) / 2 in
+    let columns : l + half + (count - half) ≡ l + count = omega arith in
+    let second = block d (cut (count - half)) (l + half) (first + n) .1 in
+    let stored : Stored right (entryAt second) (width d (l + half)) (width d (l + count)) = rw columns at (b .1) in
+    product-same (width d l) (width d (l + half)) (width d (l + count)) (matrixOf left) _ (matrixOf right) second (a .1 .at) (stored .at)
+
 module _ (d : Diagram) (l : ℕ) {first made : ℕ} {start cells : List ℕ} where
   pub built-one : (count : ℕ) → count ≡ 1 → Stored cells (levelEntry d l) (width d l) (width d (suc l)) →
       Built d l count first made start start cells made
@@ -84,16 +98,11 @@ module _ (d : Diagram) (l : ℕ) {first made : ℕ} {start cells : List ℕ} whe
       (product (width d l) (width d (l + (count + 1) / 2)) (width d (l + count)) (matrixOf left) (matrixOf right) (first + k) .1))
       (width d l) (width d (l + count)) →
       Built d l count first made start out cells total
-  built-two count {n = n} {k = k} {left = left} {right = right} more a b w s =
+  built-two count more a b w s =
       let half = (count + 1) / 2 in
       let rest = count - half in
-      let columns : l + half + rest ≡ l + count = omega arith in
       let first-half = block d (cut half) l (first + made) .1 in
-      let second-half = block d (cut rest) (l + half) (first + n) .1 in
-      let stored : Stored right (entryAt second-half) (width d (l + half)) (width d (l + count)) = rw columns at (b .1) in
-      let same =
-      product-same (width d l) (width d (l + half)) (width d (l + count)) (matrixOf left) first-half (matrixOf right) second-half
-      (a .1 .at) (stored .at) in
+      let same = product-is d l count a b in
       let joined = product (width d l) (width d (l + half)) (width d (l + count)) in
       let whole =
       rw (← block-halves d l count more) at
@@ -101,11 +110,24 @@ module _ (d : Diagram) (l : ℕ) {first made : ℕ} {start cells : List ℕ} whe
       (written-bind (joined first-half) (b .0) (rw same at w))) in
       (written-own whole, rw (same, whole .result) at s)
 
--- A block of count levels makes at most 960 gates for each product.
-pub built-few : (d : Diagram) → Sized d → (l count : ℕ) {first made total : ℕ} {start out : List ℕ} {m : Matrix} →
-    Written (block d (cut count) l) first made start out m total → 1 ≤ count → l + count ≤ d .contacts →
-    total ≤ made + 960 * (count - 1)
-built-few d sized l count {first} {made} w some fits =
-    let size = size-cut count some in
-    let few = block-count d 8 (sized-narrow d sized) (cut count) l (omega arith) .from (first + made) in
-    omega (arith, w .count, rw size at few)
+-- Room for a block of more than one level leaves room for its left block, then for its right block, then for their product.
+module _ (d : Diagram) (l count : ℕ) (more : 2 ≤ count) {first made : ℕ} {start : List ℕ}
+    (room : RoomFor (block d (cut count) l) first made start) where
+  pub left-room : RoomFor (block d (cut ((count + 1) / 2)) l) first made start
+  left-room = room-first _ _ (rw (block-halves d l count more) at room)
+
+  module _ {n : ℕ} {between left : List ℕ} (a : Built d l ((count + 1) / 2) first made start between left n)
+      (kept : length between ≡ length start) where
+    rest : RoomFor
+        (block d (cut (count - (count + 1) / 2)) (l + (count + 1) / 2) >>=
+        product (width d l) (width d (l + (count + 1) / 2)) (width d (l + count)) (block d (cut ((count + 1) / 2)) l (first + made) .1))
+        first n between
+    rest = room-then _ _ (rw (block-halves d l count more) at room) (a .0) kept
+
+    pub right-room : RoomFor (block d (cut (count - (count + 1) / 2)) (l + (count + 1) / 2)) first n between
+    right-room = room-first _ _ rest
+
+    pub last-room : {k : ℕ} {later right : List ℕ} →
+        Built d (l + (count + 1) / 2) (count - (count + 1) / 2) first n between later right k → length later ≡ length between →
+        RoomFor (product (width d l) (width d (l + (count + 1) / 2)) (width d (l + count)) (matrixOf left) (matrixOf right)) first k later
+    last-room b same = rw (product-is d l count a b) (room-then _ _ rest (b .0) same)

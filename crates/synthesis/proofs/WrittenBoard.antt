@@ -1,5 +1,5 @@
 -- The board of a diagram as it is written: the gates of the whole block, and the pairs that its matrix gives.
-use Prim.Native.Nat.{ℕ, _+_}
+use Prim.Native.Nat.{ℕ, _+_, _*_, _≤_}
 use native.Mathlib.Nat.{add-zero, zero-add}
 use native.Mathlib.Omega.{arith}
 use mathlib.Core.Path.{_≡_, ap}
@@ -9,15 +9,24 @@ use lib.ListN.{length}
 use lib.Seq.{sets}
 use Rattle.diagram.specs.declared.Diagram.{Diagram}
 use Rattle.diagram.specs.Diagram.{width, root}
-use Rattle.diagram.specs.Questions.{inRange}
+use Rattle.diagram.specs.Questions.{Sized, inRange}
 use Rattle.diagram.proofs.Paths.{width-last, root-in}
 use Rattle.netlist.specs.Netlist.{gateLine, gateBytes, listed}
 use Rattle.rules.specs.Blocks.{Matrix, entryAt, cut, block}
 use Rattle.rules.specs.Board.{lineOf, wholeBlock, pairOf, boardOf}
-use Rattle.products.specs.Written.{Written, matrixOf, Stored}
+use Rattle.products.specs.Written.{Written, RoomFor, matrixOf, Stored}
+use Rattle.rules.proofs.Bounds.{sized-narrow, gates-most}
 use Rattle.synthesis.proofs.WrittenPairs.{listed-same}
 
 module _ (d : Diagram) where
+  pub board-room : Sized d → {out : List ℕ} → 5 * length (boardOf d .gates) ≤ length out →
+      RoomFor (block d (cut (d .contacts)) 0) (gateLine (d .contacts)) 0 out
+  unfolding boardOf wholeBlock
+  board-room sized room =
+      let some = sized .contacts in
+      let few = gates-most d (some .0) (some .1) (sized-narrow d sized) in
+      rw (add-zero (gateLine (d .contacts))) (record { lines = omega arith; bytes = omega arith })
+
   pub board-gates : {total : ℕ} {start out : List ℕ} {m : Matrix} →
       Written (block d (cut (d .contacts)) 0) (gateLine (d .contacts)) 0 start out m total →
       (total ≡ length (boardOf d .gates)) × (out ≡ sets start 0 (flatMap gateBytes (boardOf d .gates)))

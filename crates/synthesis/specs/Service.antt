@@ -49,5 +49,9 @@ buildingOr zero net buffer =
     record { refusal = 0; length = lib.ListN.length (fileOf net); file = over (fileOf net) buffer }
 buildingOr (suc k) net buffer = record { refusal = suc k; length = 0; file = buffer }
 
+-- What build leaves of a board once the table has its yes: question 9, then the file.
+abbrev pub writingOf : Netlist → List ℕ → Building
+writingOf net buffer = buildingOr (roomNumber (roomOf (length (fileOf net)) (length buffer))) net buffer
+
 unfoldable pub buildingOf : List ℕ → List ℕ → Building
 buildingOf table buffer = buildingOr (buildRefusal table (length buffer)) (tableBoard table) buffer

@@ -8,7 +8,7 @@ ghost use Rattle.diagram.specs.Questions.{Sized};
 ghost use Rattle.diagram.specs.Diagram as diagrams;
 ghost use Rattle.rules.specs.Blocks.{cut, entryAt, levelEntry};
 ghost use Rattle.rules.specs.Blocks as blocks;
-ghost use Rattle.products.specs.Written.{Written, Room, railOf, Stored, RowStored};
+ghost use Rattle.products.specs.Written.{Written, RoomFor, railOf, Stored, RowStored};
 
 // The number of nodes of a level; level n has two.
 fn width(d: Diagram, l: usize) -> usize
@@ -72,7 +72,7 @@ pub fn block(
     made: usize,
 ) -> usize
     requires { ⌜ Sized d × (1 ≤ count) × (l + count ≤ d .contacts) × (64 ≤ length (now cells)) ⌝ }
-    requires { ⌜ (2 ≤ first) × Room first made (960 * (count - 1)) (now out) ⌝ }
+    requires { ⌜ (2 ≤ first) × RoomFor (blocks.block d (cut count) l) first made (now out) ⌝ }
     ensures { λ r. ⌜ Written (blocks.block d (cut count) l) first made (now (out .entry)) (now (out .exit)) (blocks.block d (cut count) l (first + made) .1) r ⌝ }
     ensures { λ _. ⌜ Stored (now (cells .exit)) (entryAt (blocks.block d (cut count) l (first + made) .1)) (diagrams.width d l) (diagrams.width d (l + count)) ⌝ }
 {

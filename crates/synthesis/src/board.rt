@@ -32,7 +32,7 @@ fn put_pairs(d: Diagram, cells: &[u16], pairs: &mut [u8])
 // Writes the gates of a diagram's board, five bytes each, and its pairs, four bytes each, from the start of each buffer, and returns
 // the number of gates.
 pub fn synthesise(d: Diagram, out: &mut [u8], pairs: &mut [u8]) -> usize
-    requires { ⌜ Sized d × (inRange d ≡ true) × (52800 ≤ length (now out)) × (4 * d .outputs ≤ length (now pairs)) ⌝ }
+    requires { ⌜ Sized d × (inRange d ≡ true) × (5 * length (boardOf d .gates) ≤ length (now out)) × (4 * d .outputs ≤ length (now pairs)) ⌝ }
     ensures { λ r. ⌜ r ≡ length (boardOf d .gates) ⌝ }
     ensures { λ _. ⌜ now (out .exit) ≡ sets (now (out .entry)) 0 (flatMap gateBytes (boardOf d .gates)) ⌝ }
     ensures { λ _. ⌜ now (pairs .exit) ≡ sets (now (pairs .entry)) 0 (flatMap pairBytes (boardOf d .pairs)) ⌝ }
@@ -42,4 +42,21 @@ pub fn synthesise(d: Diagram, out: &mut [u8], pairs: &mut [u8]) -> usize
     let made = block::block(d, 0, n, &mut cells, out, 2 + 2 * n, 0);
     put_pairs(d, &cells, pairs);
     made
+}
+
+// A number of gates that a diagram's board does not pass: the formula for its largest width; level n counts, as 2.
+pub fn most_gates(d: Diagram) -> usize
+    requires { ⌜ Sized d ⌝ }
+    ensures { λ r. ⌜ length (boardOf d .gates) ≤ r ⌝ }
+{
+    let n = d.contacts;
+    let widths = d.widths;
+    let mut w = 2;
+    for l in 0..n {
+        let here = widths[l];
+        if w < here {
+            w = here;
+        }
+    }
+    (n - 1) * (w * w * (2 * w - 1))
 }

@@ -2,10 +2,10 @@
 ghost use mathlib.Core.Path.{_≡_};
 ghost use mathlib.Core.List.{[]};
 ghost use Prim.Native.Nat.{_+_, _*_, _≤_, max};
-ghost use lib.ListN.{length, getD, take, replicate};
+ghost use lib.ListN.{length, take, replicate};
 ghost use Rattle.netlist.specs.Netlist.{gateAt, listed};
 ghost use Rattle.rules.specs.Board.{largest, depthOf};
-ghost use Rattle.products.specs.Written.{depthsFrom};
+ghost use Rattle.products.specs.Written.{depthsFrom, Sourced};
 
 fn larger(a: u16, b: u16) -> u16
     ensures { λ r. ⌜ r ≡ max a b ⌝ }
@@ -13,25 +13,18 @@ fn larger(a: u16, b: u16) -> u16
     if a < b { b } else { a }
 }
 
-// The depth of a line among those known so far; 0 where it is none of them.
-fn depth_at(depths: &[u16], known: usize, line: usize) -> u16
-    requires { ⌜ known ≤ length (now depths) ⌝ }
-    ensures { λ r. ⌜ r ≡ getD (take known (now (depths .entry))) line 0 ⌝ }
-{
-    if line < known { depths[line] } else { 0 }
-}
-
 // Works out the depths of the gates, whose lines go from `first` up, and returns the largest.
 fn scan(gates: &[u8], count: usize, first: usize, depths: &mut [u16]) -> u16
     requires { ⌜ (count ≤ 65535) × (5 * count ≤ length (now gates)) × (first + count ≤ length (now depths)) × (take first (now depths) ≡ replicate first 0) ⌝ }
+    requires { ⌜ Sourced (now gates) first count ⌝ }
     ensures { λ r. ⌜ r ≡ largest (depthsFrom (now (gates .entry)) first count) ⌝ }
 {
     let mut deepest: u16 = 0;
     for g in 0..count {
         let at = 5 * g;
         let known = first + g;
-        let left = depth_at(depths, known, fields::number(gates[at + 1], gates[at + 2]));
-        let right = depth_at(depths, known, fields::number(gates[at + 3], gates[at + 4]));
+        let left = depths[fields::number(gates[at + 1], gates[at + 2])];
+        let right = depths[fields::number(gates[at + 3], gates[at + 4])];
         let depth = larger(left, right) + 1;
         depths[known] = depth;
         deepest = larger(deepest, depth);
@@ -42,9 +35,13 @@ fn scan(gates: &[u8], count: usize, first: usize, depths: &mut [u16]) -> u16
 // The depth of a netlist of n contacts whose gates stand in count times five bytes.
 pub fn depth_of(gates: &[u8], count: usize, n: usize) -> usize
     requires { ⌜ (n ≤ 12) × (count ≤ 10560) × (5 * count ≤ length (now gates)) ⌝ }
+    requires { ⌜ Sourced (now gates) (2 + 2 * n) count ⌝ }
     ensures { λ r. ⌜ r ≡ depthOf (record { contacts = n; gates = listed (gateAt (now (gates .entry))) count 0; pairs = [] }) ⌝ }
 {
+    if count <= 1974 {
+        let mut few = [0u16; 2_000];
+        return scan(gates, count, 2 + 2 * n, &mut few) as usize;
+    }
     let mut depths = [0u16; 10_586];
-    let deepest = scan(gates, count, 2 + 2 * n, &mut depths);
-    deepest as usize
+    scan(gates, count, 2 + 2 * n, &mut depths) as usize
 }

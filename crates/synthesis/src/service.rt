@@ -2,9 +2,15 @@
 use crate::board;
 use crate::depth;
 use crate::file;
+use diagram::Diagram;
 use netlist::Room;
 ghost use mathlib.Core.Path.{_≡_};
-ghost use Rattle.synthesis.specs.Service.{checkedOf, buildingOf};
+ghost use mathlib.Core.Bool.{true};
+ghost use Prim.Native.Nat.{_*_, _≤_};
+ghost use lib.ListN.{length};
+ghost use Rattle.diagram.specs.Questions.{Sized, inRange};
+ghost use Rattle.rules.specs.Board.{boardOf};
+ghost use Rattle.synthesis.specs.Service.{checkedOr, checkedOf, writingOf, buildingOf};
 
 // What check returns: a table's contacts and outputs and its netlist's gates and depth, or the refusal.
 #[repr(C)]
@@ -23,7 +29,25 @@ pub struct Built {
     pub length: u32,
 }
 
-// Reads a table and returns its contacts and outputs and its netlist's gates and depth.
+// What check returns of an accepted table's diagram; its board's gates are written to the buffer.
+fn measure(d: Diagram, gates: &mut [u8]) -> Checked
+    requires { ⌜ Sized d × (inRange d ≡ true) × (5 * length (boardOf d .gates) ≤ length (now gates)) ⌝ }
+    ensures { λ r. ⌜ r ≡ checkedOr 0 (boardOf d) ⌝ }
+{
+    let mut pairs = [0u8; 32];
+    let made = board::synthesise(d, gates, &mut pairs);
+    let depth = depth::depth_of(gates, made, d.contacts);
+    Checked {
+        refusal: 0,
+        contacts: d.contacts as u32,
+        outputs: d.outputs as u32,
+        gates: made as u32,
+        depth: depth as u32,
+    }
+}
+
+// Reads a table and returns its contacts and outputs and its netlist's gates and depth. The buffer for the gates is as long as
+// the formula asks, in three lengths.
 pub fn check(table: &[u8]) -> Checked
     ensures { λ r. ⌜ r ≡ checkedOf (now (table .entry)) ⌝ }
 {
@@ -39,17 +63,17 @@ pub fn check(table: &[u8]) -> Checked
         };
     }
     let d = read.diagram;
-    let mut gates = [0u8; 52_800];
-    let mut pairs = [0u8; 32];
-    let made = board::synthesise(d, &mut gates, &mut pairs);
-    let depth = depth::depth_of(&gates, made, d.contacts);
-    Checked {
-        refusal: 0,
-        contacts: d.contacts as u32,
-        outputs: d.outputs as u32,
-        gates: made as u32,
-        depth: depth as u32,
+    let most = board::most_gates(d);
+    if most <= 960 {
+        let mut gates = [0u8; 4_800];
+        return measure(d, &mut gates);
     }
+    if most <= 2880 {
+        let mut gates = [0u8; 14_400];
+        return measure(d, &mut gates);
+    }
+    let mut gates = [0u8; 52_800];
+    measure(d, &mut gates)
 }
 
 // A refusal, with the length zero.
@@ -62,8 +86,30 @@ fn refused(number: u32) -> Built
     }
 }
 
+// Writes the file of an accepted table's netlist from the start of the lent buffer, if there is room; its gates are first written
+// to a buffer of their own.
+fn write(d: Diagram, gates: &mut [u8], file: &mut [u8]) -> Built
+    requires { ⌜ Sized d × (inRange d ≡ true) × (5 * length (boardOf d .gates) ≤ length (now gates)) ⌝ }
+    ensures { λ r. ⌜ r .refusal ≡ writingOf (boardOf d) (now (file .entry)) .refusal ⌝ }
+    ensures { λ r. ⌜ r .length ≡ writingOf (boardOf d) (now (file .entry)) .length ⌝ }
+    ensures { λ _. ⌜ now (file .exit) ≡ writingOf (boardOf d) (now (file .entry)) .file ⌝ }
+{
+    let mut pairs = [0u8; 32];
+    let gate_bytes = 5 * board::synthesise(d, gates, &mut pairs);
+    let pair_bytes = 4 * d.outputs;
+    let length = 10 + gate_bytes + pair_bytes;
+    let Room::Enough = netlist::ask_room(length, file.len()) else {
+        return refused(9);
+    };
+    file::put_file(file, d.contacts, &gates[..gate_bytes], &pairs[..pair_bytes]);
+    Built {
+        refusal: 0,
+        length: length as u32,
+    }
+}
+
 // Writes the file of a table's netlist from the start of the lent buffer and returns its length; a refusal leaves the buffer as it
-// came.
+// came. The buffer for the gates is as in check.
 pub fn build(table: &[u8], file: &mut [u8]) -> Built
     ensures { λ r. ⌜ r .refusal ≡ buildingOf (now (table .entry)) (now (file .entry)) .refusal ⌝ }
     ensures { λ r. ⌜ r .length ≡ buildingOf (now (table .entry)) (now (file .entry)) .length ⌝ }
@@ -75,17 +121,15 @@ pub fn build(table: &[u8], file: &mut [u8]) -> Built
         return refused(refusal);
     }
     let d = read.diagram;
-    let mut gates = [0u8; 52_800];
-    let mut pairs = [0u8; 32];
-    let gate_bytes = 5 * board::synthesise(d, &mut gates, &mut pairs);
-    let pair_bytes = 4 * d.outputs;
-    let length = 10 + gate_bytes + pair_bytes;
-    let Room::Enough = netlist::ask_room(length, file.len()) else {
-        return refused(9);
-    };
-    file::put_file(file, d.contacts, &gates[..gate_bytes], &pairs[..pair_bytes]);
-    Built {
-        refusal: 0,
-        length: length as u32,
+    let most = board::most_gates(d);
+    if most <= 960 {
+        let mut gates = [0u8; 4_800];
+        return write(d, &mut gates, file);
     }
+    if most <= 2880 {
+        let mut gates = [0u8; 14_400];
+        return write(d, &mut gates, file);
+    }
+    let mut gates = [0u8; 52_800];
+    write(d, &mut gates, file)
 }

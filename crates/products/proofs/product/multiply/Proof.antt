@@ -5,7 +5,7 @@ use Prim.Native.Nat.{_≤_, _-_}
 use mathlib.Core.Path.{_≡_, refl}
 use lib.ListN.{length}
 use Rattle.products.specs.Written.{matrixOf}
-use Rattle.products.proofs.WrittenRows.{Turned, begun, longer, product-few}
+use Rattle.products.proofs.WrittenRows.{Turned, begun, longer, product-room}
 use Rattle.products.proofs.product.multiply.Statement.{statement}
 use Rattle.products.proofs.product.multiply.Tie as tie
 
@@ -27,8 +27,8 @@ row-requires c κs =
     let turn = c .before .before in
     let loop = turn .before in
     let start = loop .before .before .before .before .before in
-    let few = product-few (loop .loop .inv .3) (start .pre .0 .1) (start .pre .0 .2) in
-    omega (arith, start .pre, turn .loop-test, loop .loop .inv, few)
+    let room = product-room (loop .loop .inv .3) _ (start .pre .1 .1) (turn .loop-test .taken) (loop .loop .inv .2) in
+    (omega (arith, start .pre .0, turn .loop-test, loop .loop .inv), (start .pre .1 .0, room))
 
 add-u : tie.Need-add-u Inv-loop μ-loop
 add-u c = search needs

@@ -5,7 +5,7 @@ use Prim.Native.Nat.{_≤_, _-_}
 use mathlib.Core.Path.{_≡_, refl}
 use lib.ListN.{length}
 use Rattle.products.specs.Written.{matrixOf}
-use Rattle.products.proofs.WrittenTerms.{Turned, turned-none, turned-more, turned-few, turned-all}
+use Rattle.products.proofs.WrittenTerms.{Turned, turned-none, turned-more, turned-room, turned-all}
 use Rattle.products.proofs.product.terms.Statement.{statement}
 use Rattle.products.proofs.product.terms.Tie as tie
 
@@ -30,8 +30,11 @@ cell-requires-2 c κs = search needs
 
 term-requires : tie.Need-term-requires Inv-loop μ-loop
 term-requires c κs =
-    let loop = c .before .before .before .before in
-    omega (arith, turned-few (loop .loop .inv .3))
+    let turn = c .before .before .before in
+    let loop = turn .before in
+    let start = loop .before .before .before .before .before in
+    rw (c .before .before .cell .ensures, c .before .cell2 .ensures)
+    (turned-room (loop .loop .inv .3) _ (start .pre .1) (turn .loop-test .taken) (loop .loop .inv .2))
 
 collect-requires : tie.Need-collect-requires Inv-loop μ-loop
 collect-requires c κs = omega arith

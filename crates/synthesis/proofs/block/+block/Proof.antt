@@ -4,7 +4,7 @@ use borrow.Fn.Kinds.{In}
 use borrow.Fn.PlainCycle.{Measures, is, falls, and}
 use native.Mathlib.Omega.{arith}
 use Rattle.rules.proofs.Bounds.{sized-narrow}
-use Rattle.synthesis.proofs.WrittenBlocks.{built-one, built-two, built-few}
+use Rattle.synthesis.proofs.WrittenBlocks.{built-one, built-two, left-room, right-room, last-room}
 use Rattle.synthesis.proofs.block.block.Reads as block
 use Rattle.synthesis.proofs.block.block.Kinds as block-kinds
 use Rattle.synthesis.proofs.block.+block.Lts-block as block-lts
@@ -63,7 +63,8 @@ block-slice-aggregate-block t c = omega arith
 block-block-requires : (t : ℕ) → block-lts.Need-block-requires (claims t) (block-at t) block.Post
 block-block-requires t c κs =
     let start = c .before .before .before .before .before in
-    (omega arith, ((start .pre .1 .0 .0, omega arith, omega arith, omega arith), omega arith))
+    let room = left-room (start .args .d) (start .args .l) (start .args .count) (omega arith) (start .pre .1 .1 .1) in
+    (omega arith, ((start .pre .1 .0 .0, omega arith, omega arith, omega arith), (start .pre .1 .1 .0, room)))
 
 block-slice-aggregate-block-2 : (t : ℕ) → block-lts.Need-slice-aggregate-block-2 (claims t) (block-at t) block.Post
 block-slice-aggregate-block-2 t c = omega arith
@@ -74,8 +75,9 @@ block-block-requires-2 t c κs =
     let start = left .before .before .before .before .before .before in
     let args = start .args in
     let sized = start .pre .1 .0 .0 in
-    let few = built-few (args .d) sized (args .l) ((args .count + 1) / 2) (left .block .ensures .0) (omega arith) (omega arith) in
-    (omega arith, ((sized, omega arith, omega arith, omega arith), omega (arith, start .pre .1 .1, left .block .kept, few)))
+    let room = right-room (args .d) (args .l) (args .count) (omega (arith, left .before .before .before .if1)) (start .pre .1 .1 .1) (left .block .ensures)
+    (omega (arith, left .block .kept)) in
+    (omega arith, ((sized, omega arith, omega arith, omega arith), (start .pre .1 .1 .0, room)))
 
 block-width-requires : (t : ℕ) → block-lts.Need-width-requires (claims t) (block-at t) block.Post
 block-width-requires t c κs =
@@ -120,10 +122,8 @@ block-multiply-requires t c κs =
     let rows = sized-narrow d sized l (omega (arith, counts)) in
     let middle = sized-narrow d sized (l + half) (omega (arith, counts)) in
     let columns = sized-narrow d sized (l + start .args .count) (counts .2) in
-    let first = built-few d sized l half (left .block .ensures .0) (omega (arith, counts)) (omega (arith, counts)) in
-    let second =
-    built-few d sized (l + half) (start .args .count - half) (right .block2 .ensures .0) (omega (arith, counts))
-    (omega (arith, counts)) in
+    let room = last-room d l (start .args .count) (omega (arith, left .before .before .before .if1)) (start .pre .1 .1 .1) (left .block .ensures)
+    (omega (arith, left .block .kept)) (right .block2 .ensures) (omega (arith, right .block2 .kept)) in
     let widths = c .before .before in (
       omega (
         arith,
@@ -137,7 +137,14 @@ block-multiply-requires t c κs =
         right .block2 .kept,
         counts,
       ),
-      omega (arith, start .pre .1, left .block .kept, right .block2 .kept, first, second),
+      (
+        start .pre .1 .1 .0,
+        rw (
+          widths .before .before .before .before .width .ensures,
+          widths .width3 .ensures,
+          widths .before .before .before .width2 .ensures,
+        ) room,
+      ),
     )
 
 block-same-length-2 : (t : ℕ) → block-lts.Need-same-length-2 (claims t) (block-at t) block.Post

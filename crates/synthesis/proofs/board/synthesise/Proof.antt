@@ -1,7 +1,7 @@
 -- `board::synthesise` meets its contract: the whole block's gates, and the pairs that its matrix gives.
 use borrow.Author.Needs.{needs}
 use native.Mathlib.Omega.{arith}
-use Rattle.synthesis.proofs.WrittenBoard.{board-gates, board-pairs}
+use Rattle.synthesis.proofs.WrittenBoard.{board-room, board-gates, board-pairs}
 use Rattle.synthesis.proofs.board.synthesise.Statement.{statement}
 use Rattle.synthesis.proofs.board.synthesise.Tie as tie
 
@@ -17,7 +17,8 @@ add-block c = search needs
 block-requires : tie.Need-block-requires
 block-requires c κs =
     let start = c .before .before .before .before in
-    ((start .pre .0, omega (arith, start .pre .0 .contacts), omega arith, omega arith), omega (arith, start .pre .0 .contacts, start .pre))
+    let room = board-room (start .args .d) (start .pre .0) (start .pre .2) in
+    ((start .pre .0, omega (arith, start .pre .0 .contacts), omega arith, omega arith), (omega arith, room))
 
 slice-aggregate-put-pairs : tie.Need-slice-aggregate-put-pairs
 slice-aggregate-put-pairs c = search needs

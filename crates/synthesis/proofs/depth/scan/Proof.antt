@@ -1,10 +1,11 @@
 -- `depth::scan` meets its contract. The loop's invariant: the depths of the gates passed are known, and the largest.
 use borrow.Author.Needs.{needs}
 use native.Mathlib.Omega.{arith}
-use Prim.Native.Nat.{_+_, _≤_, _-_}
+use Prim.Native.Nat.{_+_, _≤_, _<_, _-_}
 use mathlib.Core.Path.{_≡_, refl}
 use lib.ListN.{length, take, length-set}
-use Rattle.synthesis.proofs.Scans.{Scanned, scan-none, scan-few, gate-depth, scan-more}
+use Rattle.netlist.specs.Netlist.{gateAt}
+use Rattle.synthesis.proofs.Scans.{Scanned, deeper, scan-none, scan-low, left-below, right-below, gate-depth, scan-more}
 use Rattle.synthesis.proofs.depth.scan.Statement.{statement}
 use Rattle.synthesis.proofs.depth.scan.Tie as tie
 
@@ -16,7 +17,7 @@ abbrev μ-loop : tie.MeasureT-loop
 μ-loop gates count first depths₀ deepest₀ g₀ depths deepest g = count - g
 
 loop-holds : tie.Need-loop-holds Inv-loop μ-loop
-loop-holds c = (omega arith, refl, scan-none _ _ _ (c .before .before .pre .3))
+loop-holds c = (omega arith, refl, scan-none _ _ _ (c .before .before .pre .0 .3))
 
 mul-at : tie.Need-mul-at Inv-loop μ-loop
 mul-at c = omega arith
@@ -39,8 +40,19 @@ shared-slice-read-number-2 c = omega arith
 number-requires : tie.Need-number-requires Inv-loop μ-loop
 number-requires c κs = search needs
 
-depth-at-requires : tie.Need-depth-at-requires Inv-loop μ-loop
-depth-at-requires c κs = omega arith
+-- Both sources are lines below the gate's own.
+lower-left : (c : tie.After-number Inv-loop μ-loop) → let turn = c .before .before .before in
+    c .number .result < turn .before .before .before .before .args .first + turn .before .loop .g
+lower-left c =
+    let turn = c .before .before .before in
+    let start = turn .before .before .before .before in
+    left-below (start .args .gates .now) (turn .before .loop .g) (start .pre .1) (turn .loop-test .taken) (c .number .ensures)
+
+mul-left : tie.Need-mul-left Inv-loop μ-loop
+mul-left c = omega (arith, lower-left c)
+
+slice-read-left : tie.Need-slice-read-left Inv-loop μ-loop
+slice-read-left c = omega (arith, lower-left (c .before))
 
 add-number-3 : tie.Need-add-number-3 Inv-loop μ-loop
 add-number-3 c = omega arith
@@ -57,27 +69,37 @@ shared-slice-read-number-4 c = omega arith
 number-requires-2 : tie.Need-number-requires-2 Inv-loop μ-loop
 number-requires-2 c κs = search needs
 
-depth-at-requires-2 : tie.Need-depth-at-requires-2 Inv-loop μ-loop
-depth-at-requires-2 c κs = omega arith
+lower-right : (c : tie.After-number2 Inv-loop μ-loop) → let turn = c .before .before .before .before .before .before .before in
+    c .number2 .result < turn .before .before .before .before .args .first + turn .before .loop .g
+lower-right c =
+    let turn = c .before .before .before .before .before .before .before in
+    let start = turn .before .before .before .before in
+    right-below (start .args .gates .now) (turn .before .loop .g) (start .pre .1) (turn .loop-test .taken) (c .number2 .ensures)
+
+mul-right : tie.Need-mul-right Inv-loop μ-loop
+mul-right c = omega (arith, lower-right c)
+
+slice-read-right : tie.Need-slice-read-right Inv-loop μ-loop
+slice-read-right c = omega (arith, lower-right (c .before))
 
 larger-requires : tie.Need-larger-requires Inv-loop μ-loop
 larger-requires c κs = search needs
 
+-- The depth of the gate, given those of the lines below its own.
+abbrev turn : tie.After-larger Inv-loop μ-loop → tie.In-loop Inv-loop μ-loop
+turn c = c .before .before .before .before .before .before .before .before .before
+
+depth : (c : tie.After-larger Inv-loop μ-loop) → let loop = turn c .before in let start = loop .before .before .before in
+    c .larger .result + 1 ≡ deeper (take (start .args .first + loop .loop .g) (loop .loop .depths)) (gateAt (start .args .gates .now) (loop .loop .g))
+depth c =
+    let start = turn c .before .before .before .before in
+    gate-depth (start .args .gates .now) (turn c .before .loop .g) (start .pre .1) (turn c .loop-test .taken) _
+    (c .before .before .before .before .before .before .number .ensures) (c .before .before .number2 .ensures) (c .larger .ensures)
+
 add-depth : tie.Need-add-depth Inv-loop μ-loop
 add-depth c =
-    let left = c .before .before .before .before .before .before in
-    let turn = left .before .before .before .before .before in
-    let loop = turn .before in
-    omega (
-      arith,
-      c .larger .ensures,
-      c .before .depth-at2 .ensures,
-      left .depth-at .ensures,
-      turn .loop-test,
-      scan-few (loop .loop .inv .2) (left .before .number .result),
-      scan-few (loop .loop .inv .2) (c .before .before .number2 .result),
-      loop .before .before .before .pre,
-    )
+    let loop = turn c .before in
+    omega (arith, scan-low (loop .loop .inv .2) _ (depth c), turn c .loop-test, loop .before .before .before .pre .0)
 
 mul-depths : tie.Need-mul-depths Inv-loop μ-loop
 mul-depths c = omega arith
@@ -96,18 +118,12 @@ loop-less c = search needs
 
 loop-again : tie.Need-loop-again Inv-loop μ-loop
 loop-again c =
-    let right = c .before .before in
-    let left = right .before .before .before .before .before in
-    let turn = left .before .before .before .before .before in
-    let loop = turn .before in
-    let start = loop .before .before .before in
-    let depth =
-    gate-depth (start .args .gates .now) (take (start .args .first + loop .loop .g) (loop .loop .depths)) (loop .loop .g)
-    (left .before .number .ensures) (right .before .number2 .ensures) (left .depth-at .ensures)
-    (right .depth-at2 .ensures) (c .before .larger .ensures) in (
+    let loop = turn (c .before) .before in
+    let start = loop .before .before .before in (
       omega arith,
       simp length-set (loop .loop .inv .1),
-      scan-more (loop .loop .inv .2) _ _ (omega (arith, turn .loop-test, loop .loop .inv, start .pre)) depth (c .larger2 .ensures),
+      scan-more (loop .loop .inv .2) _ _ (omega (arith, turn (c .before) .loop-test, loop .loop .inv, start .pre .0)) (depth (c .before))
+          (c .larger2 .ensures),
     )
 
 same-length : tie.Need-same-length Inv-loop μ-loop
@@ -133,13 +149,15 @@ scan-spec =
     add-number-2
     shared-slice-read-number-2
     number-requires
-    depth-at-requires
+    mul-left
+    slice-read-left
     add-number-3
     shared-slice-read-number-3
     add-number-4
     shared-slice-read-number-4
     number-requires-2
-    depth-at-requires-2
+    mul-right
+    slice-read-right
     larger-requires
     add-depth
     mul-depths

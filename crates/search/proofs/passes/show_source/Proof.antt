@@ -1,8 +1,8 @@
 -- `faults::words::show_source` meets its contract, by cases on the line.
 use borrow.Author.Needs.{needs}
 use borrow.Author.Tests.{eq-eqb, ne-eqb}
-use Rattle.search.proofs.words.show_source.Statement.{statement}
-use Rattle.search.proofs.words.show_source.Tie as tie
+use Rattle.search.proofs.passes.show_source.Statement.{statement}
+use Rattle.search.proofs.passes.show_source.Tie as tie
 
 wide-requires : tie.Need-wide-requires
 wide-requires c κs = search needs

@@ -6,8 +6,8 @@ use mathlib.Core.List.{List}
 use lib.ListN.{length, replicate, length-replicate}
 use Rattle.netlist.specs.Netlist.{gateLine}
 use Rattle.search.specs.Words.{Roomy}
-use Rattle.search.proofs.words.search.Statement.{statement}
-use Rattle.search.proofs.words.search.Tie as tie
+use Rattle.search.proofs.inputs.search.Statement.{statement}
+use Rattle.search.proofs.inputs.search.Tie as tie
 
 roomy : (n : ℕ) (gates : List ℕ) (s w : ℕ) → 2 * (length gates / 5) ≤ s → gateLine n + length gates / 5 ≤ w →
     Roomy n gates (length (replicate {A = ℕ} s 0)) (length (replicate {A = ℕ} w 0)) (length (replicate {A = ℕ} w 0))

@@ -14,8 +14,8 @@ use Rattle.faults.specs.Betrayal.{noCode}
 use Rattle.search.specs.Words.{bitOf, bitsOf, netOf}
 use Rattle.search.proofs.Agree.{agree-more}
 use Rattle.search.proofs.Bits.{bit-zero}
-use Rattle.search.proofs.words.agreeing.Statement.{statement}
-use Rattle.search.proofs.words.agreeing.Tie as tie
+use Rattle.search.proofs.inputs.agreeing.Statement.{statement}
+use Rattle.search.proofs.inputs.agreeing.Tie as tie
 
 abbrev Inv-loop : tie.InvT-loop
 Inv-loop pairs words mask₀ j₀ j-end mask j =

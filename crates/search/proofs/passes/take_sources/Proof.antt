@@ -6,8 +6,8 @@ use mathlib.Core.Path.{_≡_, refl, ap, _∙_}
 use lib.ListN.{length, length-set}
 use Rattle.search.specs.Words.{heldWord, Sourced}
 use Rattle.search.proofs.Sources.{sources-more}
-use Rattle.search.proofs.words.take_sources.Statement.{statement}
-use Rattle.search.proofs.words.take_sources.Tie as tie
+use Rattle.search.proofs.passes.take_sources.Statement.{statement}
+use Rattle.search.proofs.passes.take_sources.Tie as tie
 
 abbrev Inv-loop : tie.InvT-loop
 Inv-loop gates first line value sources₀ g₀ g-end sources g =

@@ -1,11 +1,11 @@
--- `gate::put_gate` meets its contract: a store and two numbers are a run of five.
+-- `gate::make_gate` meets its contract: a store and two numbers are a run of five.
 use borrow.Author.Needs.{needs}
 use native.Mathlib.Omega.{arith}
 use Prim.Native.Nat.{_*_, _/_, _%_}
 use lib.ListN.{length-set}
-use Rattle.products.proofs.Writing.{sets-five}
-use Rattle.products.proofs.gate.put_gate.Statement.{statement}
-use Rattle.products.proofs.gate.put_gate.Tie as tie
+use Rattle.products.proofs.Writing.{sets-five, written-gate}
+use Rattle.products.proofs.gate.make_gate.Statement.{statement}
+use Rattle.products.proofs.gate.make_gate.Tie as tie
 
 mul-at : tie.Need-mul-at
 mul-at c = search needs
@@ -25,6 +25,12 @@ add-put-number-2 c = search needs
 put-number-requires-2 : tie.Need-put-number-requires-2
 put-number-requires-2 c κs = omega (arith, simp length-set at (c .before .before .before .put-number .kept .0))
 
+add-result : tie.Need-add-result
+add-result c = search needs
+
+cast-result : tie.Need-cast-result
+cast-result c = search needs
+
 same-length : tie.Need-same-length
 same-length c =
     let second = c .before .before in
@@ -36,11 +42,12 @@ returns c =
     let second = c .before .before in
     let first = second .before .before .before .before in
     let args = first .before .before .before .args in
-    rw (second .put-number2 .ensures, first .put-number .ensures)
-    (sets-five (args .out .now) (5 * args .g) (args .kind) (args .left / 256) (args .left % 256) (args .right / 256) (args .right % 256))
+    let bytes =
+    sets-five (args .out .now) (5 * args .g) (args .kind) (args .left / 256) (args .left % 256) (args .right / 256) (args .right % 256) in
+    written-gate (rw (second .put-number2 .ensures, first .put-number .ensures) bytes)
 
-pub put-gate-spec : {M : Type 1} → statement M
-put-gate-spec =
+pub make-gate-spec : {M : Type 1} → statement M
+make-gate-spec =
     tie.close
     (tie.spec
     mul-at
@@ -49,5 +56,7 @@ put-gate-spec =
     put-number-requires
     add-put-number-2
     put-number-requires-2
+    add-result
+    cast-result
     same-length
     returns)

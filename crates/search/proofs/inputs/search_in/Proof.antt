@@ -16,8 +16,8 @@ use Rattle.search.proofs.Found.{clear-all, found}
 use Rattle.faults.proofs.Least.{least-is, within}
 use Rattle.search.proofs.Masks.{mask-tells}
 use Rattle.search.proofs.Sources.{sources-at}
-use Rattle.search.proofs.words.search_in.Statement.{statement}
-use Rattle.search.proofs.words.search_in.Tie as tie
+use Rattle.search.proofs.inputs.search_in.Statement.{statement}
+use Rattle.search.proofs.inputs.search_in.Tie as tie
 
 -- Whether the held line is betrayed at an input.
 abbrev betrayed : List ℕ → List ℕ → ℕ → ℕ → ℕ → ℕ → Bool

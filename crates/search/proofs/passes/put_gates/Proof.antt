@@ -6,8 +6,8 @@ use mathlib.Core.Path.{_≡_}
 use lib.ListN.{length}
 use Rattle.netlist.specs.Netlist.{gatesOf}
 use Rattle.search.proofs.GateWords.{Made, none-made, more-made, left-in, right-in}
-use Rattle.search.proofs.words.put_gates.Statement.{statement}
-use Rattle.search.proofs.words.put_gates.Tie as tie
+use Rattle.search.proofs.passes.put_gates.Statement.{statement}
+use Rattle.search.proofs.passes.put_gates.Tie as tie
 
 abbrev Inv-loop : tie.InvT-loop
 Inv-loop gates sources first line word low₀ high₀ g₀ g-end low high g =

@@ -9,8 +9,8 @@ use Rattle.simulation.specs.Run.{gate, workOut}
 use Rattle.search.specs.Words.{bitOf, holdOf, ruleOf}
 use Rattle.search.proofs.Lines.{run-parts}
 use Rattle.search.proofs.GateWords.{constant-held}
-use Rattle.search.proofs.words.work_words.Statement.{statement}
-use Rattle.search.proofs.words.work_words.Tie as tie
+use Rattle.search.proofs.passes.work_words.Statement.{statement}
+use Rattle.search.proofs.passes.work_words.Tie as tie
 
 put-inputs-requires : tie.Need-put-inputs-requires
 put-inputs-requires c κs = search needs

@@ -2,8 +2,8 @@
 use borrow.Author.Needs.{needs}
 use native.Mathlib.Omega.{arith}
 use Prim.Native.Nat.{_+_}
-use Rattle.search.proofs.words.source_at.Statement.{statement}
-use Rattle.search.proofs.words.source_at.Tie as tie
+use Rattle.search.proofs.passes.source_at.Statement.{statement}
+use Rattle.search.proofs.passes.source_at.Tie as tie
 
 shared-slice-read-number : tie.Need-shared-slice-read-number
 shared-slice-read-number c = search needs

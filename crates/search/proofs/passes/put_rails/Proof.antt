@@ -11,8 +11,8 @@ use Rattle.simulation.specs.Run.{rail, workOut}
 use Rattle.rules.specs.Code.{codeRails}
 use Rattle.search.specs.Words.{bitsOf, ruleOf}
 use Rattle.search.proofs.Lines.{rails-more}
-use Rattle.search.proofs.words.put_rails.Statement.{statement}
-use Rattle.search.proofs.words.put_rails.Tie as tie
+use Rattle.search.proofs.passes.put_rails.Statement.{statement}
+use Rattle.search.proofs.passes.put_rails.Tie as tie
 
 abbrev Inv-loop : tie.InvT-loop
 Inv-loop n base line word words₀ i₀ words i =

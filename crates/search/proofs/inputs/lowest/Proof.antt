@@ -16,8 +16,8 @@ use Rattle.faults.specs.Betrayal.{noCode}
 use Rattle.search.specs.Words.{netOf}
 use Rattle.search.proofs.Agree.{agree-at}
 use Rattle.faults.proofs.Least.{least-is, within}
-use Rattle.search.proofs.words.lowest.Statement.{statement}
-use Rattle.search.proofs.words.lowest.Tie as tie
+use Rattle.search.proofs.inputs.lowest.Statement.{statement}
+use Rattle.search.proofs.inputs.lowest.Tie as tie
 
 abbrev Inv-loop : tie.InvT-loop
 Inv-loop pairs lines j₀ j = (j < length pairs / 4) × ((i : ℕ) → i < j → noCode (netOf 0 [] pairs) lines i ≡ false)

@@ -10,8 +10,8 @@ use Rattle.simulation.specs.Run.{rail, workOut}
 use Rattle.rules.specs.Code.{codeRails}
 use Rattle.search.specs.Words.{ruleOf}
 use Rattle.search.proofs.Lines.{constants}
-use Rattle.search.proofs.words.put_inputs.Statement.{statement}
-use Rattle.search.proofs.words.put_inputs.Tie as tie
+use Rattle.search.proofs.passes.put_inputs.Statement.{statement}
+use Rattle.search.proofs.passes.put_inputs.Tie as tie
 
 slice-write-words : tie.Need-slice-write-words
 slice-write-words c = search needs

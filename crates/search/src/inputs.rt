@@ -1,0 +1,102 @@
+// The smallest code input that betrays a held line, and the lowest output that shows it.
+use crate::passes;
+use crate::words;
+ghost use mathlib.Core.Path.{_≡_};
+ghost use mathlib.Core.Bool.{true};
+ghost use mathlib.Core.List.{[]};
+ghost use Prim.Native.Nat.{ℕ, _/_, _≤_, _<_};
+ghost use lib.ListN.{length};
+ghost use Rattle.fields.specs.Bounded.{any};
+ghost use Rattle.diagram.specs.Diagram.{bit};
+ghost use Rattle.netlist.specs.Netlist.{pairsOf};
+ghost use Rattle.netlist.specs.Questions.{arePairs};
+ghost use Rattle.faults.specs.Betrayal.{noCode, least, smallestInput};
+ghost use Rattle.search.specs.Words.{bitOf, bitsOf, netOf, Searchable, Roomy};
+
+// The inputs at which some output's true and false line agree.
+fn agreeing(pairs: &[u8], words: &[u64]) -> u64
+    requires { ⌜ arePairs (length (now words)) (now pairs) ≡ true ⌝ }
+    ensures { λ r. ⌜ ((k : ℕ) → k < 64 → bitOf k r ≡ bit (any (length (pairsOf (now (pairs .entry)))) (noCode (netOf 0 [] (now (pairs .entry))) (bitsOf k (now (words .entry)))))) ⌝ }
+{
+    let mut mask = 0;
+    for j in 0..pairs.len() / 4 {
+        let at = 4 * j;
+        let on = words::word_at(pairs, at, words);
+        let off = words::word_at(pairs, at + 2, words);
+        mask = mask | ((on ^ off) ^ words::ONES);
+    }
+    mask
+}
+
+// The smallest code input that betrays a held line, which some input does, with room for the gates' sources and the lines' words.
+fn search_in(
+    gates: &[u8],
+    pairs: &[u8],
+    n: usize,
+    line: usize,
+    value: u8,
+    sources: &mut [u16],
+    low: &mut [u64],
+    high: &mut [u64],
+) -> u32
+    requires { ⌜ Searchable n (now gates) (now pairs) (record { line = line; value = value }) ⌝ }
+    requires { ⌜ Roomy n (now gates) (length (now sources)) (length (now low)) (length (now high)) ⌝ }
+    ensures { λ r. ⌜ r ≡ smallestInput (netOf n (now (gates .entry)) (now (pairs .entry))) (record { line = line; value = value }) ⌝ }
+{
+    passes::take_sources(gates, 2 + 2 * n, line, value, sources);
+    let word = words::same_word(value);
+    let lines = 2 + 2 * n + gates.len() / 5;
+    let mut base = 0;
+    loop {
+        passes::work_words(gates, sources, n, base, line, word, low, high);
+        let mask = agreeing(pairs, &low[..lines]);
+        if mask != 0 {
+            return base as u32 + words::lowest_bit(mask);
+        }
+        let next = base + 64;
+        let mask = agreeing(pairs, &high[..lines]);
+        if mask != 0 {
+            return next as u32 + words::lowest_bit(mask);
+        }
+        base = next + 64;
+    }
+}
+
+// The smallest code input that betrays a held line, which some input does. A small board has little room to clear.
+pub fn search(gates: &[u8], pairs: &[u8], n: usize, line: usize, value: u8) -> u32
+    requires { ⌜ Searchable n (now gates) (now pairs) (record { line = line; value = value }) ⌝ }
+    ensures { λ r. ⌜ r ≡ smallestInput (netOf n (now (gates .entry)) (now (pairs .entry))) (record { line = line; value = value }) ⌝ }
+{
+    if gates.len() <= 1150 {
+        let mut sources = [0u16; 460];
+        let mut lo = [0u64; 256];
+        let mut hi = [0u64; 256];
+        return search_in(gates, pairs, n, line, value, &mut sources, &mut lo, &mut hi);
+    }
+    if gates.len() <= 11390 {
+        let mut sources = [0u16; 4556];
+        let mut lo = [0u64; 2304];
+        let mut hi = [0u64; 2304];
+        return search_in(gates, pairs, n, line, value, &mut sources, &mut lo, &mut hi);
+    }
+    let mut sources = [0u16; 21120];
+    let mut lo = [0u64; 10586];
+    let mut hi = [0u64; 10586];
+    search_in(gates, pairs, n, line, value, &mut sources, &mut lo, &mut hi)
+}
+
+// The lowest output whose pair shows no code, which some output's does.
+pub fn lowest(pairs: &[u8], lines: &[u8]) -> u32
+    requires { ⌜ (arePairs (length (now lines)) (now pairs) ≡ true) × (length (now pairs) / 4 ≤ 8) ⌝ }
+    requires { ⌜ any (length (pairsOf (now pairs))) (noCode (netOf 0 [] (now pairs)) (now lines)) ≡ true ⌝ }
+    ensures { λ r. ⌜ r ≡ least (length (pairsOf (now (pairs .entry)))) (noCode (netOf 0 [] (now (pairs .entry))) (now (lines .entry))) ⌝ }
+{
+    let mut j = 0;
+    loop {
+        let at = 4 * j;
+        if words::value_at(pairs, at, lines) == words::value_at(pairs, at + 2, lines) {
+            return j as u32;
+        }
+        j += 1;
+    }
+}
