@@ -1,9 +1,13 @@
--- What probe writes from, finds and leaves once no question refuses: over a netlist's bytes, and the bytes of one hold.
+-- What probe writes from, finds and leaves once no question refuses: over a netlist's bytes, and the bytes of one hold; and the
+-- diagram that the netlist is made from.
 use Prim.Native.Nat.{ℕ, _+_, _/_, _≤_}
 use mathlib.Core.Path.{_≡_}
 use mathlib.Core.Bool.{true}
 use mathlib.Core.List.{List, _++_}
 use lib.ListN.{length}
+use Rattle.diagram.specs.declared.Diagram.{Diagram}
+use Rattle.table.specs.Promises.{Accepted}
+use Rattle.table.specs.Table.{diagramIn}
 use Rattle.netlist.specs.Netlist.{gateLine, holdAt}
 use Rattle.netlist.specs.Questions.{areGates, areHolds}
 use Rattle.simulation.specs.Service.{over}
@@ -12,6 +16,12 @@ use Rattle.probe.specs.declared.service.Probed.{Probed}
 use Rattle.faults.specs.Betrayal.{stuckAt, smallestInput}
 use Rattle.probe.specs.Service.{foundAt}
 use Rattle.search.specs.Words.{netOf, Searchable}
+
+-- The diagram of an accepted table.
+pub record Drawn (d : Diagram) : Type 0 where
+  pub table : List ℕ
+  pub accepted : Accepted table
+  pub is : d ≡ diagramIn table
 
 -- Line values are worked out: gates whose sources are below their own lines, one hold, and room for every line.
 pub record Showable (n : ℕ) (gates hold : List ℕ) (room : ℕ) : Type 0 where

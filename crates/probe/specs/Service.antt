@@ -67,5 +67,15 @@ probingOr zero net hold buffer =
     record { answer = foundAt net input values; buffer = over (fileOf net ++ values) buffer }
 probingOr (suc k) net hold buffer = record { answer = refusedProbe (suc k); buffer = buffer }
 
+-- What probe returns and leaves of a board once the table has its yes: question 14, then 9, then the smallest betraying input.
+abbrev pub probingOn : Netlist → List ℕ → List ℕ → Probing
+probingOn net hold buffer =
+    probingOr
+    (firstNo
+    (holdsNumber (oneHold (lineCount net) hold)
+    ∷ roomNumber (roomOf (length (fileOf net) + lineCount net) (length buffer))
+    ∷ []))
+    net (holdAt hold 0) buffer
+
 unfoldable pub probingOf : List ℕ → List ℕ → List ℕ → Probing
 probingOf table hold buffer = probingOr (probeRefusal table hold (length buffer)) (tableBoard table) (holdAt hold 0) buffer

@@ -1,4 +1,5 @@
 // The service probe.
+use diagram::Diagram;
 use netlist::Holds;
 use netlist::Room;
 ghost use mathlib.Core.Path.{_≡_};
@@ -11,12 +12,13 @@ ghost use Rattle.diagram.specs.Diagram.{inputOf};
 ghost use Rattle.netlist.specs.Netlist.{holdAt, pairsOf};
 ghost use Rattle.netlist.specs.Questions.{arePairs};
 ghost use Rattle.simulation.specs.Service.{over};
+ghost use Rattle.rules.specs.Board.{boardOf};
 ghost use Rattle.rules.specs.Code.{codeRails};
 ghost use Rattle.synthesis.specs.Service.{fileWith};
 ghost use Rattle.faults.specs.Betrayal.{stuckAt, noCode};
-ghost use Rattle.probe.specs.Service.{oneHold, wayOf, foundAt, refusedProbe, probingOf};
+ghost use Rattle.probe.specs.Service.{oneHold, wayOf, foundAt, refusedProbe, probingOn, probingOf};
 ghost use Rattle.search.specs.Words.{netOf};
-ghost use Rattle.probe.specs.Findings.{Showable, Writable, Findable, Found};
+ghost use Rattle.probe.specs.Findings.{Showable, Writable, Findable, Found, Drawn};
 
 // How a pair without a code shows.
 pub enum Way {
@@ -138,22 +140,15 @@ fn find(gates: &[u8], pairs: &[u8], n: usize, hold: &[u8], buffer: &mut [u8]) ->
     name_output(pairs, &buffer[start..end], input)
 }
 
-// The smallest code input at which a held line makes some pair 00 or 11, the lowest such output and the way it shows; the
-// buffer then holds the netlist's file and the line values at that input with the line held. A refusal leaves it as it came.
-pub fn probe(table: &[u8], hold: &[u8], buffer: &mut [u8]) -> Probed
-    ensures { λ r. ⌜ r ≡ probingOf (now (table .entry)) (now (hold .entry)) (now (buffer .entry)) .answer ⌝ }
-    ensures { λ _. ⌜ now (buffer .exit) ≡ probingOf (now (table .entry)) (now (hold .entry)) (now (buffer .entry)) .buffer ⌝ }
+// What probe returns and leaves of an accepted table's diagram; its board's gates are written to a buffer of their own.
+fn probe_board(d: Diagram, hold: &[u8], buffer: &mut [u8], gates: &mut [u8]) -> Probed
+    requires { ⌜ Drawn d × (5 * length (boardOf d .gates) ≤ length (now gates)) ⌝ }
+    ensures { λ r. ⌜ r ≡ probingOn (boardOf d) (now (hold .entry)) (now (buffer .entry)) .answer ⌝ }
+    ensures { λ _. ⌜ now (buffer .exit) ≡ probingOn (boardOf d) (now (hold .entry)) (now (buffer .entry)) .buffer ⌝ }
 {
-    let read = table::read(table);
-    let refusal = read.refusal;
-    if refusal != 0 {
-        return refused(refusal);
-    }
-    let d = read.diagram;
     let n = d.contacts;
-    let mut gates = [0u8; 52_800];
     let mut pairs = [0u8; 32];
-    let made = synthesis::synthesise(d, &mut gates, &mut pairs);
+    let made = synthesis::synthesise(d, gates, &mut pairs);
     let lines = 2 + 2 * n + made;
     let Holds::Ordered = ask_one_hold(lines, hold) else {
         return refused(14);
@@ -164,4 +159,30 @@ pub fn probe(table: &[u8], hold: &[u8], buffer: &mut [u8]) -> Probed
         return refused(9);
     };
     find(&gates[..gate_bytes], &pairs[..pair_bytes], n, hold, buffer)
+}
+
+// The smallest code input at which a held line makes some pair 00 or 11, the lowest such output and the way it shows; the
+// buffer then holds the netlist's file and the line values at that input with the line held. A refusal leaves it as it came.
+// The buffer for the gates is as long as the formula asks, in three lengths.
+pub fn probe(table: &[u8], hold: &[u8], buffer: &mut [u8]) -> Probed
+    ensures { λ r. ⌜ r ≡ probingOf (now (table .entry)) (now (hold .entry)) (now (buffer .entry)) .answer ⌝ }
+    ensures { λ _. ⌜ now (buffer .exit) ≡ probingOf (now (table .entry)) (now (hold .entry)) (now (buffer .entry)) .buffer ⌝ }
+{
+    let read = table::read(table);
+    let refusal = read.refusal;
+    if refusal != 0 {
+        return refused(refusal);
+    }
+    let d = read.diagram;
+    let most = synthesis::most_gates(d);
+    if most <= 960 {
+        let mut gates = [0u8; 4_800];
+        return probe_board(d, hold, buffer, &mut gates);
+    }
+    if most <= 2880 {
+        let mut gates = [0u8; 14_400];
+        return probe_board(d, hold, buffer, &mut gates);
+    }
+    let mut gates = [0u8; 52_800];
+    probe_board(d, hold, buffer, &mut gates)
 }

@@ -129,8 +129,23 @@ module _ (d : Diagram) (sized : Sized d) {made : ℕ} (count : made ≡ length (
       unfolding boardOf
       measured i = record { refusal = 0; contacts = d .contacts; outputs = sym (pairs-length d) i; gates = count i; depth = depth-is i }
 
-  -- The file's length, and the file itself as gates and pairs taken from the two buffers that they are written to.
-  length-is : 10 + 5 * made + 4 * d .outputs ≡ length (fileOf (boardOf d))
+  -- The gates' and the pairs' bytes, taken from the two buffers that they are written to.
+  pub taken-gates : (room : List ℕ) {gates : List ℕ} → 5 * length (boardOf d .gates) ≤ length room →
+      gates ≡ sets room 0 (flatMap gateBytes (boardOf d .gates)) → take (5 * made) gates ≡ flatMap gateBytes (boardOf d .gates)
+  taken-gates room wide e =
+      let l = length-gate-bytes (boardOf d .gates) in
+      rw e (taken-back _ room (omega arith) (5 * made) (omega arith))
+
+  pub taken-pairs : (room : List ℕ) {pairs : List ℕ} → 32 ≤ length room →
+      pairs ≡ sets room 0 (flatMap pairBytes (boardOf d .pairs)) → take (4 * d .outputs) pairs ≡ flatMap pairBytes (boardOf d .pairs)
+  taken-pairs room wide e =
+      let l = length-pair-bytes (boardOf d .pairs) in
+      let outputs = pairs-length d in
+      let few = sized .outputs in
+      rw e (taken-back _ room (omega arith) (4 * d .outputs) (omega arith))
+
+  -- The file's length, and the file itself.
+  pub length-is : 10 + 5 * made + 4 * d .outputs ≡ length (fileOf (boardOf d))
   length-is =
       let l = file-length (boardOf d) in
       let p = pairs-length d in
@@ -141,16 +156,8 @@ module _ (d : Diagram) (sized : Sized d) {made : ℕ} (count : made ≡ length (
       pairs ≡ sets space 0 (flatMap pairBytes (boardOf d .pairs)) →
       fileWith (d .contacts) (take (5 * made) gates) (take (4 * d .outputs) pairs) ≡ fileOf (boardOf d)
   unfolding boardOf
-  file-is room space {gates} {pairs} wide ample g p =
-      let m = sized .outputs in
-      let gs = flatMap gateBytes (boardOf d .gates) in
-      let ps = flatMap pairBytes (boardOf d .pairs) in
-      let gate-count = length-gate-bytes (boardOf d .gates) in
-      let pair-count = length-pair-bytes (boardOf d .pairs) in
-      let outputs = pairs-length d in
-      let first : take (5 * made) gates ≡ gs = rw g (taken-back gs room (omega arith) (5 * made) (omega arith)) in
-      let second : take (4 * d .outputs) pairs ≡ ps = rw p (taken-back ps space (omega arith) (4 * d .outputs) (omega arith)) in
-      ap₂ (fileWith (d .contacts)) first second ∙ file-of (boardOf d)
+  file-is room space wide ample g p =
+      ap₂ (fileWith (d .contacts)) (taken-gates room wide g) (taken-pairs space ample p) ∙ file-of (boardOf d)
 
   module _ (buffer : List ℕ) where
     pub write-short : {k n : ℕ} → (k ≡ 9) × (n ≡ 0) → roomOf (10 + 5 * made + 4 * d .outputs) (length buffer) ≡ Short →
@@ -170,9 +177,6 @@ module _ (d : Diagram) (sized : Sized d) {made : ℕ} (count : made ≡ length (
 module _ {table : List ℕ} {d : Diagram} (u : Unrefused table d) where
   board-is : boardOf d ≡ tableBoard table
   board-is = ap boardOf (u .is)
-
-  pub size-is : {made : ℕ} → made ≡ length (boardOf d .gates) → 10 + 5 * made + 4 * d .outputs ≡ length (fileOf (tableBoard table))
-  size-is count = length-is d (u .sized) count ∙ ap (λ (net : Netlist). length (fileOf net)) board-is
 
   pub check-done : {t : Checked} → t ≡ checkedOr 0 (boardOf d) → t ≡ checkedOf table
   unfolding checkedOf

@@ -5,6 +5,7 @@ mod depth;
 mod file;
 mod service;
 
+pub use board::most_gates;
 pub use board::synthesise;
 pub use file::put_file;
 pub use service::Built;

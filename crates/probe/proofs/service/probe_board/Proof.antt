@@ -1,0 +1,218 @@
+-- `service::probe_board` meets its contract: each return is the case of `probingOn` that the hold and the room lead to.
+use borrow.Author.Needs.{needs}
+use native.Mathlib.Omega.{arith}
+use Prim.Native.Nat.{ℕ, _+_, _*_, _≤_}
+use mathlib.Core.Path.{_≡_, sym, _∙_}
+use lib.ListN.{length, take}
+use lib.Seq.{length-take-le}
+use Rattle.diagram.specs.declared.Diagram.{Diagram}
+use Rattle.diagram.specs.Questions.{Sized}
+use Rattle.netlist.specs.declared.drive.Holds.the-variants.{Ordered}
+use Rattle.netlist.specs.declared.drive.Room.the-variants.{Enough}
+use Rattle.netlist.specs.Netlist.{gateLine}
+use Rattle.netlist.specs.Questions.{roomOf}
+use Rattle.rules.specs.Board.{boardOf}
+use Rattle.synthesis.proofs.Services.{gates-few, taken-gates, taken-pairs}
+use Rattle.probe.specs.Findings.{Drawn}
+use Rattle.probe.specs.Service.{oneHold}
+use Rattle.probe.proofs.Boards.{gatesOn, pairsOn, sized, ranged}
+use Rattle.probe.proofs.Outcomes.{disordered, short, ready, found}
+use Rattle.probe.proofs.service.probe_board.Statement.{statement}
+use Rattle.probe.proofs.service.probe_board.Tie as tie
+
+-- The diagram, and the number of its gates.
+abbrev start : tie.After-synthesise → tie.Start
+start c = c .before .before .before .before .before .before
+
+abbrev diagram : tie.After-synthesise → Diagram
+diagram c = start c .args .d
+
+drawn : (c : tie.After-synthesise) → Drawn (diagram c)
+drawn c = start c .pre .0
+
+within : (c : tie.After-synthesise) → Sized (diagram c)
+within c = sized (drawn c)
+
+few : (c : tie.After-synthesise) → c .synthesise .result ≤ 10560
+few c = gates-few (diagram c) (within c) (c .synthesise .ensures .0)
+
+-- The gates' and the pairs' bytes, within their buffers.
+gates-fit : (c : tie.After-synthesise) → 5 * c .synthesise .result ≤ length (c .synthesise .last .1 .0)
+gates-fit c = omega (arith, c .synthesise .ensures .0, start c .pre .1, c .synthesise .kept)
+
+pairs-fit : (c : tie.After-synthesise) → 4 * diagram c .outputs ≤ length (c .synthesise .last .1 .1 .0)
+pairs-fit c = omega (arith, within c .outputs, c .synthesise .kept)
+
+gates-taken : (c : tie.After-synthesise) → take (5 * c .synthesise .result) (c .synthesise .last .1 .0) ≡ gatesOn (boardOf (diagram c))
+gates-taken c = taken-gates _ (within c) (c .synthesise .ensures .0) _ (start c .pre .1) (c .synthesise .ensures .1 .0)
+
+pairs-taken : (c : tie.After-synthesise) → take (4 * diagram c .outputs) (c .synthesise .last .1 .1 .0) ≡ pairsOn (boardOf (diagram c))
+pairs-taken c = taken-pairs _ (within c) (c .synthesise .ensures .0) _ (omega arith) (c .synthesise .ensures .1 .1)
+
+-- The number of lines, and question 14's yes.
+abbrev made : tie.After-enum-told → tie.After-synthesise
+made c = c .before .before .before .before .before .before
+
+abbrev lines : tie.After-synthesise → ℕ
+lines c = gateLine (diagram c .contacts) + c .synthesise .result
+
+ordered : (c : tie.After-enum-told) → oneHold (lines (made c)) (start (made c) .args .hold .now) ≡ Ordered
+ordered c = sym (c .before .before .ask-one-hold .ensures) ∙ c .enum-told .given .1
+
+-- The bytes to be written, and question 9's yes.
+abbrev held : tie.After-enum-told3 → tie.After-enum-told
+held c = c .before .before .before .before
+
+abbrev size : tie.After-synthesise → ℕ
+size c = 10 + 5 * c .synthesise .result + 4 * diagram c .outputs + lines c
+
+roomy : (c : tie.After-enum-told3) → roomOf (size (made (held c))) (length (start (made (held c)) .args .buffer .now)) ≡ Enough
+roomy c = sym (c .before .before .ask-room .ensures) ∙ c .enum-told3 .given .1
+
+slice-aggregate-synthesise : tie.Need-slice-aggregate-synthesise
+slice-aggregate-synthesise c = search needs
+
+synthesise-requires : tie.Need-synthesise-requires
+synthesise-requires c κs =
+    let pre = c .before .before .before .before .before .pre in
+    let s = sized (pre .0) in
+    (s, ranged (pre .0), pre .1, omega (arith, s .outputs))
+
+mul-lines : tie.Need-mul-lines
+mul-lines c = omega (arith, within (c .before .before .before) .contacts)
+
+add-lines : tie.Need-add-lines
+add-lines c = omega (arith, within (c .before .before .before) .contacts)
+
+add-lines-2 : tie.Need-add-lines-2
+add-lines-2 c = let board = c .before .before .before in omega (arith, within board .contacts, few board)
+
+ask-one-hold-requires : tie.Need-ask-one-hold-requires
+ask-one-hold-requires c κs = search needs
+
+enum-told : tie.Need-enum-told
+enum-told c = search needs
+
+enum-told-2 : tie.Need-enum-told-2
+enum-told-2 c = search needs
+
+refused-requires : tie.Need-refused-requires
+refused-requires c κs = search needs
+
+same-length : tie.Need-same-length
+same-length c = search needs
+
+returns : tie.Need-returns
+returns c =
+    let asked = c .before .before .before in
+    let board = asked .before .before .before .before in
+    disordered (drawn board) (board .synthesise .ensures .0) (start board .args .hold .now) _
+    (sym (asked .ask-one-hold .ensures) ∙ c .before .enum-told2 .given .1)
+    (c .refused .ensures)
+
+mul-gate-bytes : tie.Need-mul-gate-bytes
+mul-gate-bytes c = search needs
+
+mul-pair-bytes : tie.Need-mul-pair-bytes
+mul-pair-bytes c = omega (arith, within (made (c .before)) .outputs)
+
+add-ask-room : tie.Need-add-ask-room
+add-ask-room c = search needs
+
+add-ask-room-2 : tie.Need-add-ask-room-2
+add-ask-room-2 c = let board = made (c .before) in omega (arith, within board .outputs, few board)
+
+add-ask-room-3 : tie.Need-add-ask-room-3
+add-ask-room-3 c = let board = made (c .before) in omega (arith, within board .contacts, within board .outputs, few board)
+
+ask-room-requires : tie.Need-ask-room-requires
+ask-room-requires c κs = search needs
+
+enum-told-3 : tie.Need-enum-told-3
+enum-told-3 c = search needs
+
+enum-told-4 : tie.Need-enum-told-4
+enum-told-4 c = search needs
+
+refused-requires-2 : tie.Need-refused-requires-2
+refused-requires-2 c κs = search needs
+
+same-length-2 : tie.Need-same-length-2
+same-length-2 c = search needs
+
+returns-2 : tie.Need-returns-2
+returns-2 c =
+    let asked = c .before .before .before in
+    let holds = asked .before .before in
+    let board = made holds in
+    short (drawn board) (board .synthesise .ensures .0) (start board .args .hold .now) _ (ordered holds)
+    (sym (asked .ask-room .ensures) ∙ c .before .enum-told4 .given .1)
+    (c .refused2 .ensures)
+
+slice-reshare-prefix-find : tie.Need-slice-reshare-prefix-find
+slice-reshare-prefix-find c = search needs
+
+slice-aggregate-find : tie.Need-slice-aggregate-find
+slice-aggregate-find c = sym (length-take-le _ _ (gates-fit (made (held (c .before)))))
+
+array-share-prefix-pairs : tie.Need-array-share-prefix-pairs
+array-share-prefix-pairs c = pairs-fit (made (held (c .before)))
+
+slice-aggregate-find-2 : tie.Need-slice-aggregate-find-2
+slice-aggregate-find-2 c = sym (length-take-le _ _ (pairs-fit (made (held (c .before .before)))))
+
+find-requires : tie.Need-find-requires
+find-requires c κs =
+    let room = c .before .before .before in
+    let board = made (held room) in
+    ready (drawn board) (board .synthesise .ensures .0) _ (start board .args .buffer .now) (ordered (held room)) (gates-taken board)
+    (pairs-taken board)
+    (roomy room)
+
+same-length-3 : tie.Need-same-length-3
+same-length-3 c = search needs
+
+same-length-4 : tie.Need-same-length-4
+same-length-4 c = search needs
+
+returns-3 : tie.Need-returns-3
+returns-3 c =
+    let room = c .before .before .before .before .before .before in
+    let board = made (held room) in
+    found (drawn board) (board .synthesise .ensures .0) _ _ (ordered (held room)) (gates-taken board) (pairs-taken board) (roomy room)
+    (c .before .before .find .ensures)
+
+pub probe-board-spec : {M : Type 1} → statement M
+probe-board-spec =
+    tie.close
+    (tie.spec
+    slice-aggregate-synthesise
+    synthesise-requires
+    mul-lines
+    add-lines
+    add-lines-2
+    ask-one-hold-requires
+    enum-told
+    enum-told-2
+    refused-requires
+    same-length
+    returns
+    mul-gate-bytes
+    mul-pair-bytes
+    add-ask-room
+    add-ask-room-2
+    add-ask-room-3
+    ask-room-requires
+    enum-told-3
+    enum-told-4
+    refused-requires-2
+    same-length-2
+    returns-2
+    slice-reshare-prefix-find
+    slice-aggregate-find
+    array-share-prefix-pairs
+    slice-aggregate-find-2
+    find-requires
+    same-length-3
+    same-length-4
+    returns-3)
