@@ -1,5 +1,6 @@
 pub mod Binding
 pub mod Cells
+pub mod Listing
 pub mod Standing
 pub mod Writing
 pub mod Rooms

@@ -2,7 +2,7 @@
 use Prim.Native.Nat.{ℕ, zero, suc, _+_, _*_, _≤_, _<_, max}
 use mathlib.Core.Path.{_≡_}
 use mathlib.Core.Bool.{Bool, cond}
-use mathlib.Core.List.{List, map, flatMap}
+use mathlib.Core.List.{List, [], _∷_, map, flatMap}
 use lib.Dec.{eqb}
 use lib.ListN.{length, getD, take, replicate}
 use lib.Seq.{sets}
@@ -47,6 +47,14 @@ anyAlways middle left u = any middle (λ w. isAlways (entryAt left u w))
 -- The terms of an entry of a product, as they are made.
 unfoldable pub termsOf : ℕ → Matrix → Matrix → ℕ → ℕ → Make (List Entry)
 termsOf middle left right u v = sequence (λ w. term (entryAt left u w) (entryAt right w v)) middle 0
+
+-- The middle nodes from w on that are listed, upward; where a node is not, its factor in row u is never.
+pub data Listed (left : Matrix) (u middle : ℕ) : ℕ → List ℕ → Type 0 where
+  ended : {w : ℕ} → w ≡ middle → Listed left u middle w []
+  dropped : {w : ℕ} {nodes : List ℕ} → w < middle → entryAt left u w ≡ Never → Listed left u middle (suc w) nodes →
+      Listed left u middle w nodes
+  taken : {w x : ℕ} {nodes : List ℕ} → w < middle → x ≡ w → Listed left u middle (suc w) nodes →
+      Listed left u middle w (x ∷ nodes)
 
 -- The entry in column v of a node of level l with these edges.
 abbrev pub railOf : ℕ → ℕ → ℕ → ℕ → Entry

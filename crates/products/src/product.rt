@@ -7,16 +7,22 @@ ghost use mathlib.Core.Path.{_≡_};
 ghost use mathlib.Core.Bool.{_&&_};
 ghost use Prim.Native.Nat.{_+_, _≤_, _<_};
 ghost use mathlib.Core.List.{[], _∷_};
-ghost use lib.ListN.{length, getD};
+ghost use lib.ListN.{length, getD, take};
 ghost use lib.Seq.{sets};
 ghost use Rattle.fields.specs.Bounded.{any};
 ghost use Rattle.rules.specs.Blocks.{isAlways, entryAt, linesIn, productEntry, product};
-ghost use Rattle.products.specs.Written.{Written, RoomFor, matrixOf, anyAlways, termsOf, rowOf, Collected, Stored, RowStored};
+ghost use Rattle.products.specs.Written.{Written, RoomFor, matrixOf, anyAlways, termsOf, rowOf, Listed, Collected, Stored, RowStored};
 
 // How many lines are among the terms, and the number of gates made so far.
 struct Found {
     count: usize,
     made: usize,
+}
+
+// How many middle nodes of a row are listed, and whether some factor in the row is always.
+struct Factors {
+    listed: usize,
+    some: bool,
 }
 
 // Whether a term is always: both factors are.
@@ -30,17 +36,29 @@ fn sure(left: Entry, right: Entry) -> bool
     }
 }
 
-// Whether some factor in row u is always.
-fn any_always(left: &[u16], middle: usize, u: usize) -> bool
-    requires { ⌜ (middle ≤ 8) × (u < 8) × (64 ≤ length (now left)) ⌝ }
-    ensures { λ r. ⌜ r ≡ anyAlways middle (matrixOf (now (left .entry))) u ⌝ }
+// Lists the middle nodes whose factor in row u is not never to `nodes`, upward. Returns how many are listed, and whether some
+// factor in row u is always.
+fn list_nodes(left: &[u16], middle: usize, u: usize, nodes: &mut [usize]) -> Factors
+    requires { ⌜ (middle ≤ 8) × (u < 8) × (64 ≤ length (now left)) × (8 ≤ length (now nodes)) ⌝ }
+    ensures { λ r. ⌜ (r .listed ≤ middle) × Listed (matrixOf (now (left .entry))) u middle 0 (take (r .listed) (now (nodes .exit))) ⌝ }
+    ensures { λ r. ⌜ r .some ≡ anyAlways middle (matrixOf (now (left .entry))) u ⌝ }
 {
+    let mut listed = 0;
+    let mut some = false;
     for w in 0..middle {
-        if cell::is_always(cell::cell(left, u, w)) {
-            return true;
+        let line = left[8 * u + w];
+        nodes[listed] = w;
+        if line != 0 {
+            listed = listed + 1;
+        }
+        if line == 1 {
+            some = true;
         }
     }
-    false
+    Factors {
+        listed: listed,
+        some: some,
+    }
 }
 
 // Whether some term of the entry in row u and column v is always; `some` says whether a factor in row u is.
@@ -76,26 +94,30 @@ fn collect(entry: Entry, lines: &mut [u16], count: usize) -> usize
     }
 }
 
-// The terms of the entry in row u and column v; the lines among them go to `lines`, in sequence.
+// The terms of the entry in row u and column v; the lines among them go to `lines`, in sequence. Terms of middle nodes that are
+// not among those used are never.
 fn terms(
     left: &[u16],
     right: &[u16],
     middle: usize,
     u: usize,
     v: usize,
+    used: &[usize],
     lines: &mut [u16],
     out: &mut [u8],
     first: usize,
     made: usize,
 ) -> Found
     requires { ⌜ (middle ≤ 8) × (u < 8) × (v < 8) × (64 ≤ length (now left)) × (64 ≤ length (now right)) × (middle ≤ length (now lines)) ⌝ }
+    requires { ⌜ Listed (matrixOf (now left)) u middle 0 (now used) ⌝ }
     requires { ⌜ RoomFor (termsOf middle (matrixOf (now left)) (matrixOf (now right)) u v) first made (now out) ⌝ }
     ensures { λ r. ⌜ Written (termsOf middle (matrixOf (now (left .entry))) (matrixOf (now (right .entry))) u v) first made (now (out .entry)) (now (out .exit)) (termsOf middle (matrixOf (now (left .entry))) (matrixOf (now (right .entry))) u v (first + made) .1) (r .made) ⌝ }
     ensures { λ r. ⌜ Collected (termsOf middle (matrixOf (now (left .entry))) (matrixOf (now (right .entry))) u v (first + made) .1) (now (lines .exit)) (r .count) ⌝ }
 {
     let mut count = 0;
     let mut total = made;
-    for w in 0..middle {
+    for i in 0..used.len() {
+        let w = used[i];
         let factor = cell::cell(left, u, w);
         let joined = join::term(factor, cell::cell(right, w, v), out, first, total);
         total = joined.made;
@@ -109,7 +131,7 @@ fn terms(
 }
 
 // The entry in row u and column v: always if a term is, else the OR tree of the terms that are lines. `some` says whether a factor
-// in row u is always.
+// in row u is always, and `used` are the middle nodes whose factor in row u is not never.
 fn entry(
     left: &[u16],
     right: &[u16],
@@ -117,12 +139,14 @@ fn entry(
     u: usize,
     v: usize,
     some: bool,
+    used: &[usize],
     out: &mut [u8],
     first: usize,
     made: usize,
 ) -> Joined
     requires { ⌜ (middle ≤ 8) × (u < 8) × (v < 8) × (64 ≤ length (now left)) × (64 ≤ length (now right)) ⌝ }
     requires { ⌜ some ≡ anyAlways middle (matrixOf (now left)) u ⌝ }
+    requires { ⌜ Listed (matrixOf (now left)) u middle 0 (now used) ⌝ }
     requires { ⌜ RoomFor (productEntry middle (matrixOf (now left)) (matrixOf (now right)) u v) first made (now out) ⌝ }
     ensures { λ r. ⌜ Written (productEntry middle (matrixOf (now (left .entry))) (matrixOf (now (right .entry))) u v) first made (now (out .entry)) (now (out .exit)) (r .entry) (r .made) ⌝ }
 {
@@ -133,7 +157,18 @@ fn entry(
         };
     }
     let mut lines = [0u16; 8];
-    let found = terms(left, right, middle, u, v, &mut lines, out, first, made);
+    let found = terms(
+        left,
+        right,
+        middle,
+        u,
+        v,
+        used,
+        &mut lines,
+        out,
+        first,
+        made,
+    );
     if found.count == 0 {
         return Joined {
             entry: Entry::Never,
@@ -170,10 +205,13 @@ fn row(
     ensures { λ r. ⌜ Written (rowOf middle (matrixOf (now (left .entry))) (matrixOf (now (right .entry))) columns u) first made (now (out .entry)) (now (out .exit)) (rowOf middle (matrixOf (now (left .entry))) (matrixOf (now (right .entry))) columns u (first + made) .1) r ⌝ }
     ensures { λ r. ⌜ RowStored (now (cells .entry)) (now (cells .exit)) u columns (λ v. getD (rowOf middle (matrixOf (now (left .entry))) (matrixOf (now (right .entry))) columns u (first + made) .1) v Entry.Never) ⌝ }
 {
-    let some = any_always(left, middle, u);
+    let mut nodes = [0usize; 8];
+    let factors = list_nodes(left, middle, u, &mut nodes);
+    let used = &nodes[..factors.listed];
+    let some = factors.some;
     let mut total = made;
     for v in 0..columns {
-        let joined = entry(left, right, middle, u, v, some, out, first, total);
+        let joined = entry(left, right, middle, u, v, some, used, out, first, total);
         let found = joined.entry;
         cells[8 * u + v] = cell::line_of(found);
         total = joined.made;

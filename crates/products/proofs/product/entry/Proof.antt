@@ -18,9 +18,9 @@ slice-aggregate-terms c = search needs
 terms-requires : tie.Need-terms-requires
 terms-requires c κs =
     let tested = c .before .before in
-    let start = tested .before .before .before .before .before in
-    let room = entry-terms _ _ _ _ _ (sym (tested .before .crosses .ensures) ∙ tested .if1 .left) (start .pre .1 .1) in
-    (omega (arith, start .pre .0), room)
+    let start = tested .before .before .before .before .before .before in
+    let room = entry-terms _ _ _ _ _ (sym (tested .before .crosses .ensures) ∙ tested .if1 .left) (start .pre .1 .1 .1) in
+    (omega (arith, start .pre .0), (start .pre .1 .1 .0, room))
 
 same-length : tie.Need-same-length
 same-length c = search needs
@@ -32,8 +32,8 @@ returns-2 c =
     entry-never _ _ _ _ _ (sym (tested .before .crosses .ensures) ∙ tested .if1 .left) (found .terms .ensures .0)
     (found .terms .ensures .1) (c .if2 .taken)
 
-array-read-t23 : tie.Need-array-read-t23
-array-read-t23 c = search needs
+array-read-t24 : tie.Need-array-read-t24
+array-read-t24 c = search needs
 
 same-length-2 : tie.Need-same-length-2
 same-length-2 c = search needs
@@ -49,23 +49,23 @@ or-tree-requires : tie.Need-or-tree-requires
 or-tree-requires c κs =
     let found = c .before .before .before .before .before .before .before .before .before in
     let tested = found .before .before .before in
-    let start = tested .before .before .before .before .before in
+    let start = tested .before .before .before .before .before .before in
     let collected = found .terms .ensures .1 in
     let room = entry-trees _ _ _ _ _ (sym (tested .before .crosses .ensures) ∙ tested .if1 .left) (found .terms .ensures .0) collected
-    (start .pre .1 .1) (omega arith) (omega (arith, found .terms .kept)) in
+    (start .pre .1 .1 .1) (omega arith) (omega (arith, found .terms .kept)) in
     (omega arith, omega (arith, collected .few, found .terms .kept), room)
 
-add-t29 : tie.Need-add-t29
-add-t29 c =
+add-t30 : tie.Need-add-t30
+add-t30 c =
     let found = c .before .before .before .before .before .before .before .before .before .before .before .before .before in
     let tested = found .before .before .before in
-    let start = tested .before .before .before .before .before in
+    let start = tested .before .before .before .before .before .before in
     let room = entry-trees _ _ _ _ _ (sym (tested .before .crosses .ensures) ∙ tested .if1 .left) (found .terms .ensures .0)
-    (found .terms .ensures .1) (start .pre .1 .1) (omega (arith, c .before .before .before .before .before .before .before .before .if2)) (omega (arith, found .terms .kept)) in
+    (found .terms .ensures .1) (start .pre .1 .1 .1) (omega (arith, c .before .before .before .before .before .before .before .before .if2)) (omega (arith, found .terms .kept)) in
     omega (arith, room .lines)
 
-sub-t30 : tie.Need-sub-t30
-sub-t30 c = search needs
+sub-t31 : tie.Need-sub-t31
+sub-t31 c = search needs
 
 same-length-3 : tie.Need-same-length-3
 same-length-3 c = search needs
@@ -88,11 +88,11 @@ entry-spec =
     terms-requires
     same-length
     returns-2
-    array-read-t23
+    array-read-t24
     same-length-2
     returns-3
     or-tree-requires
-    add-t29
-    sub-t30
+    add-t30
+    sub-t31
     same-length-3
     returns-4)

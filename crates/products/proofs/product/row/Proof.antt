@@ -2,8 +2,9 @@
 use borrow.Author.Needs.{needs}
 use native.Mathlib.Omega.{arith}
 use Prim.Native.Nat.{_≤_, _-_}
-use mathlib.Core.Path.{_≡_, refl, ap, _∙_}
+use mathlib.Core.Path.{_≡_, refl, sym, ap, _∙_}
 use lib.ListN.{length, length-set}
+use lib.Seq.{length-take-le}
 use Rattle.products.specs.Written.{matrixOf, entryOf}
 use Rattle.products.proofs.Standing.{entry-stands}
 use Rattle.products.proofs.WrittenRows.{RowTurned, row-begun, row-longer, row-room}
@@ -11,17 +12,26 @@ use Rattle.products.proofs.product.row.Statement.{statement}
 use Rattle.products.proofs.product.row.Tie as tie
 
 abbrev Inv-loop : tie.InvT-loop
-Inv-loop left right middle columns u cells₀ out₀ first made some total₀ v₀ cells out total v =
+Inv-loop left right middle columns u cells₀ out₀ first made used some total₀ v₀ cells out total v =
     (v ≤ columns)
     × (length cells ≡ length cells₀)
     × (length out ≡ length out₀)
     × RowTurned middle (matrixOf left) (matrixOf right) u first made v out₀ out cells₀ cells total
 
 abbrev μ-loop : tie.MeasureT-loop
-μ-loop left right middle columns u cells₀ out₀ first made some total₀ v₀ cells out total v = columns - v
+μ-loop left right middle columns u cells₀ out₀ first made used some total₀ v₀ cells out total v = columns - v
 
-any-always-requires : tie.Need-any-always-requires Inv-loop μ-loop
-any-always-requires c κs = search needs
+slice-aggregate-list-nodes : tie.Need-slice-aggregate-list-nodes Inv-loop μ-loop
+slice-aggregate-list-nodes c = search needs
+
+list-nodes-requires : tie.Need-list-nodes-requires Inv-loop μ-loop
+list-nodes-requires c κs = search needs
+
+array-share-prefix-nodes : tie.Need-array-share-prefix-nodes Inv-loop μ-loop
+array-share-prefix-nodes c = omega arith
+
+slice-aggregate-used : tie.Need-slice-aggregate-used Inv-loop μ-loop
+slice-aggregate-used c = sym (length-take-le _ _ (omega arith))
 
 loop-holds : tie.Need-loop-holds Inv-loop μ-loop
 loop-holds c = (omega arith, refl, refl, row-begun _ _ _ _)
@@ -29,9 +39,10 @@ loop-holds c = (omega arith, refl, refl, row-begun _ _ _ _)
 entry-requires : tie.Need-entry-requires Inv-loop μ-loop
 entry-requires c κs =
     let loop = c .before .before in
-    let start = loop .before .before .before .before .before .before in
+    let list = loop .before .before .before in
+    let start = list .before .before .before .before .before .before in
     let room = row-room (loop .loop .inv .3) _ (start .pre .1 .1) (c .before .loop-test .taken) (loop .loop .inv .2) in
-    (omega (arith, start .pre), (loop .before .any-always .ensures, room))
+    (omega (arith, start .pre), (list .list-nodes .ensures .1, (list .list-nodes .ensures .0 .1, room)))
 
 line-of-requires : tie.Need-line-of-requires Inv-loop μ-loop
 line-of-requires c κs = search needs
@@ -59,7 +70,7 @@ loop-again c =
     let made = c .before .before .before in
     let turn = made .before .before in
     let loop = turn .before in
-    let start = loop .before .before .before .before .before .before in
+    let start = loop .before .before .before .before .before .before .before .before .before in
     let narrow = start .pre .0 in
     let stands =
     entry-stands _ _ _ _ _ (narrow .0) (narrow .2) (omega (arith, turn .loop-test, narrow)) _ (omega (arith, start .pre))
@@ -80,7 +91,7 @@ same-length-2 c = c .before .loop .inv .2
 returns : tie.Need-returns Inv-loop μ-loop
 returns c =
     let last = c .before in
-    let end : last .loop .v ≡ last .before .before .before .before .before .before .args .columns = omega arith in
+    let end : last .loop .v ≡ last .before .before .before .before .before .before .before .before .before .args .columns = omega arith in
     (rw end at (last .loop .inv .3 .written), rw end at (last .loop .inv .3 .stored))
 
 pub row-spec : {M : Type 1} → statement M
@@ -89,7 +100,10 @@ row-spec =
     (tie.spec
     Inv-loop
     μ-loop
-    any-always-requires
+    slice-aggregate-list-nodes
+    list-nodes-requires
+    array-share-prefix-nodes
+    slice-aggregate-used
     loop-holds
     entry-requires
     line-of-requires
