@@ -1,7 +1,7 @@
 -- An entry of a product as it is written: always, or the OR tree of its terms' lines.
 use Prim.Native.Nat.{ℕ, _+_, _-_, _≤_}
 use native.Mathlib.Omega.{arith}
-use mathlib.Core.Path.{_≡_, ap, _∙_}
+use mathlib.Core.Path.{_≡_}
 use mathlib.Core.Bool.{true, false}
 use mathlib.Core.List.{List, [], _∷_}
 use lib.ListN.{length, getD, take}
@@ -36,6 +36,25 @@ joined-room (x ∷ ls) count {first} {made} e some room =
     let made = or-count (cut (length (x ∷ ls))) (x ∷ ls) .from (first + made) in
     record { lines = omega (arith, tree .lines); bytes = omega (arith, tree .bytes) }
 
+-- Lines joined: none, a single one, or their OR tree.
+module _ (lines : List ℕ) (count : ℕ) {first made : ℕ} {start : List ℕ} where
+  pub lines-none : count ≡ 0 → Written (joined (take count lines)) first made start start Never made
+  unfolding joined
+  lines-none e = rw e (written-return Never)
+
+  module _ (some : 1 ≤ count) (few : count ≤ length lines) where
+    pub lines-tree : {y total : ℕ} {after : List ℕ} → Written (orTree (cut count) (take count lines)) first made start after y total →
+        Written (joined (take count lines)) first made start after (Line y) total
+    lines-tree w = joined-tree (take count lines) count (length-take-le count lines few) some w
+
+    pub lines-room : RoomFor (joined (take count lines)) first made start → Room first made (count - 1) start
+    lines-room room = joined-room (take count lines) count (length-take-le count lines few) some room
+
+  pub lines-one : count ≡ 1 → 1 ≤ length lines → Written (joined (take count lines)) first made start start (Line (getD lines 0 0)) made
+  lines-one one few =
+      let same : made + count - 1 ≡ made = omega arith in
+      rw same at (lines-tree (omega arith) (omega arith) (tree-one lines first made 0 count one))
+
 module _ (middle : ℕ) (left right : Matrix) (u v : ℕ) {first made : ℕ} {start : List ℕ} where
   pub entry-sure : any middle (sure left right u v) ≡ true →
       Written (productEntry middle left right u v) first made start start Always made
@@ -43,36 +62,18 @@ module _ (middle : ℕ) (left right : Matrix) (u v : ℕ) {first made : ℕ} {st
 
   module _ {total count : ℕ} {out lines : List ℕ} {ts : List Entry} (e : any middle (sure left right u v) ≡ false)
       (w : Written (termsOf middle left right u v) first made start out ts total) (collected : Collected ts lines count) where
-    pub entry-never : count ≡ 0 → Written (productEntry middle left right u v) first made start out Never total
-    unfolding termsOf joined
-    entry-never none =
-        let no-line : linesIn ts ≡ [] = rw none at (collected .found) in
-        rw (entry-joined middle left right u v e)
-        (written-bind (λ ts. joined (linesIn ts)) w (rw no-line (written-return Never)))
-
-    entry-lines : length (linesIn ts) ≡ count
-    entry-lines = ap length (collected .found) ∙ length-take-le count lines (collected .few)
-
-    pub entry-tree : {y next : ℕ} {after : List ℕ} → 1 ≤ count →
-        Written (orTree (cut count) (take count lines)) first total out after y next →
-        Written (productEntry middle left right u v) first made start after (Line y) next
+    pub entry-joins : {y : Entry} {next : ℕ} {after : List ℕ} → Written (joined (take count lines)) first total out after y next →
+        Written (productEntry middle left right u v) first made start after y next
     unfolding termsOf
-    entry-tree some s =
+    entry-joins s =
         rw (entry-joined middle left right u v e)
-        (written-bind (λ ts. joined (linesIn ts)) w
-        (joined-tree (linesIn ts) count entry-lines some (rw (← collected .found) at s)))
+        (written-bind (λ ts. joined (linesIn ts)) w (rw (collected .found) s))
 
-    -- A single line is itself.
-    pub entry-one : count ≡ 1 → Written (productEntry middle left right u v) first made start out (Line (getD lines 0 0)) total
-    entry-one one =
-        let same : total + count - 1 ≡ total = omega arith in
-        rw same at (entry-tree (omega arith) (tree-one lines first total 0 count one))
-
-    pub entry-trees : RoomFor (productEntry middle left right u v) first made start → 1 ≤ count → length out ≡ length start →
-        Room first total (count - 1) out
+    pub entry-rest : RoomFor (productEntry middle left right u v) first made start → length out ≡ length start →
+        RoomFor (joined (take count lines)) first total out
     unfolding termsOf
-    entry-trees room some kept =
-        joined-room (linesIn ts) count entry-lines some
+    entry-rest room kept =
+        rw (collected .found) at
         (room-then _ (λ ts. joined (linesIn ts)) (rw (entry-joined middle left right u v e) at room) w kept)
 
   pub entry-terms : any middle (sure left right u v) ≡ false → RoomFor (productEntry middle left right u v) first made start →

@@ -73,3 +73,33 @@ pub fn or_tree(
     let right = or_tree(lines, from + half, rest, out, first, made + half - 1);
     gate::make_gate(out, first, made + count - 2, 1, left, right)
 }
+
+// The entry of a product whose terms are count lines: never where there is none, a single one itself, else the OR tree.
+pub fn join_lines(
+    lines: &[u16; 8],
+    count: usize,
+    out: &mut [u8],
+    first: usize,
+    made: usize,
+) -> Joined
+    requires { ⌜ (count ≤ 8) × (count ≤ length (now lines)) × RoomFor (blocks.joined (take count (now lines))) first made (now out) ⌝ }
+    ensures { λ r. ⌜ Written (blocks.joined (take count (now (lines .entry)))) first made (now (out .entry)) (now (out .exit)) (r .entry) (r .made) ⌝ }
+{
+    if count == 0 {
+        return Joined {
+            entry: Entry::Never,
+            made: made,
+        };
+    }
+    if count == 1 {
+        return Joined {
+            entry: Entry::Line(lines[0]),
+            made: made,
+        };
+    }
+    let root = or_tree(lines, 0, count, out, first, made);
+    Joined {
+        entry: Entry::Line(root),
+        made: made + count - 1,
+    }
+}

@@ -156,36 +156,9 @@ fn entry(
             made: made,
         };
     }
-    let mut lines = [0u16; 8];
-    let found = terms(
-        left,
-        right,
-        middle,
-        u,
-        v,
-        used,
-        &mut lines,
-        out,
-        first,
-        made,
-    );
-    if found.count == 0 {
-        return Joined {
-            entry: Entry::Never,
-            made: found.made,
-        };
-    }
-    if found.count == 1 {
-        return Joined {
-            entry: Entry::Line(lines[0]),
-            made: found.made,
-        };
-    }
-    let root = join::or_tree(&lines, 0, found.count, out, first, found.made);
-    Joined {
-        entry: Entry::Line(root),
-        made: found.made + found.count - 1,
-    }
+    let mut kept = [0u16; 8];
+    let found = terms(left, right, middle, u, v, used, &mut kept, out, first, made);
+    join::join_lines(&kept, found.count, out, first, found.made)
 }
 
 // Row u of a product, its entries by column.

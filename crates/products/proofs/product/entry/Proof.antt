@@ -1,8 +1,8 @@
--- `product::entry` meets its contract: always, no line, one line, or the OR tree of the lines.
+-- `product::entry` meets its contract: always, or the lines among the terms joined.
 use borrow.Author.Needs.{needs}
 use native.Mathlib.Omega.{arith}
 use mathlib.Core.Path.{sym, _∙_}
-use Rattle.products.proofs.WrittenEntries.{entry-sure, entry-never, entry-one, entry-tree, entry-terms, entry-trees}
+use Rattle.products.proofs.WrittenEntries.{entry-sure, entry-terms, entry-joins, entry-rest}
 use Rattle.products.proofs.product.entry.Statement.{statement}
 use Rattle.products.proofs.product.entry.Tie as tie
 
@@ -22,61 +22,26 @@ terms-requires c κs =
     let room = entry-terms _ _ _ _ _ (sym (tested .before .crosses .ensures) ∙ tested .if1 .left) (start .pre .1 .1 .1) in
     (omega (arith, start .pre .0), (start .pre .1 .1 .0, room))
 
+join-lines-requires : tie.Need-join-lines-requires
+join-lines-requires c κs =
+    let found = c .before .before .before .before .before in
+    let tested = found .before .before .before in
+    let start = tested .before .before .before .before .before .before in
+    let collected = found .terms .ensures .1 in
+    let room = entry-rest _ _ _ _ _ (sym (tested .before .crosses .ensures) ∙ tested .if1 .left) (found .terms .ensures .0) collected
+    (start .pre .1 .1 .1) (omega (arith, found .terms .kept)) in
+    (omega (arith, collected .few, found .terms .kept), collected .few, room)
+
 same-length : tie.Need-same-length
 same-length c = search needs
 
 returns-2 : tie.Need-returns-2
 returns-2 c =
-    let found = c .before .before .before .before .before in
+    let joined = c .before .before in
+    let found = joined .before .before .before .before .before .before in
     let tested = found .before .before .before in
-    entry-never _ _ _ _ _ (sym (tested .before .crosses .ensures) ∙ tested .if1 .left) (found .terms .ensures .0)
-    (found .terms .ensures .1) (c .if2 .taken)
-
-array-read-t24 : tie.Need-array-read-t24
-array-read-t24 c = search needs
-
-same-length-2 : tie.Need-same-length-2
-same-length-2 c = search needs
-
-returns-3 : tie.Need-returns-3
-returns-3 c =
-    let found = c .before .before .before .before .before .before .before in
-    let tested = found .before .before .before in
-    entry-one _ _ _ _ _ (sym (tested .before .crosses .ensures) ∙ tested .if1 .left) (found .terms .ensures .0)
-    (found .terms .ensures .1) (c .if3 .taken)
-
-or-tree-requires : tie.Need-or-tree-requires
-or-tree-requires c κs =
-    let found = c .before .before .before .before .before .before .before .before .before in
-    let tested = found .before .before .before in
-    let start = tested .before .before .before .before .before .before in
-    let collected = found .terms .ensures .1 in
-    let room = entry-trees _ _ _ _ _ (sym (tested .before .crosses .ensures) ∙ tested .if1 .left) (found .terms .ensures .0) collected
-    (start .pre .1 .1 .1) (omega arith) (omega (arith, found .terms .kept)) in
-    (omega arith, omega (arith, collected .few, found .terms .kept), room)
-
-add-t30 : tie.Need-add-t30
-add-t30 c =
-    let found = c .before .before .before .before .before .before .before .before .before .before .before .before .before in
-    let tested = found .before .before .before in
-    let start = tested .before .before .before .before .before .before in
-    let room = entry-trees _ _ _ _ _ (sym (tested .before .crosses .ensures) ∙ tested .if1 .left) (found .terms .ensures .0)
-    (found .terms .ensures .1) (start .pre .1 .1 .1) (omega (arith, c .before .before .before .before .before .before .before .before .if2)) (omega (arith, found .terms .kept)) in
-    omega (arith, room .lines)
-
-sub-t31 : tie.Need-sub-t31
-sub-t31 c = search needs
-
-same-length-3 : tie.Need-same-length-3
-same-length-3 c = search needs
-
-returns-4 : tie.Need-returns-4
-returns-4 c =
-    let tree = c .before .before .before in
-    let found = tree .before .before .before .before .before .before .before .before .before .before in
-    let tested = found .before .before .before in
-    entry-tree _ _ _ _ _ (sym (tested .before .crosses .ensures) ∙ tested .if1 .left) (found .terms .ensures .0)
-    (found .terms .ensures .1) (omega arith) (tree .or-tree .ensures)
+    entry-joins _ _ _ _ _ (sym (tested .before .crosses .ensures) ∙ tested .if1 .left) (found .terms .ensures .0)
+    (found .terms .ensures .1) (joined .join-lines .ensures)
 
 pub entry-spec : {M : Type 1} → statement M
 entry-spec =
@@ -86,13 +51,6 @@ entry-spec =
     returns
     slice-aggregate-terms
     terms-requires
+    join-lines-requires
     same-length
-    returns-2
-    array-read-t24
-    same-length-2
-    returns-3
-    or-tree-requires
-    add-t30
-    sub-t31
-    same-length-3
-    returns-4)
+    returns-2)
