@@ -17,5 +17,5 @@ $(LIBRARY): $(shell find crates -name '*.rt' -o -name '*.antt')
 test: | build
 	rt fmt --check
 	set -o pipefail; rt ci | tee build/ci.log
-	$(MAKE) --no-print-directory test-c
+	$(MAKE) --no-print-directory -j2 -Otarget test-c
 	@tail -n 1 build/ci.log

@@ -22,7 +22,7 @@ use Rattle.rules.proofs.Pairs.{pairs-length}
 use Rattle.rules.proofs.Promises.{within-formulas, built-files-pass}
 use Rattle.probe.specs.Findings.{Findable, Drawn}
 use Rattle.probe.specs.Service.{oneHold}
-use Rattle.search.specs.Words.{netOf}
+use Rattle.words.specs.Words.{netOf}
 use Rattle.faults.proofs.Betrayed.{betrayed}
 use Rattle.probe.proofs.OneHold.{one-held, held-line}
 use Rattle.netlist.proofs.Accepted as netlists

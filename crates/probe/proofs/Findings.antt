@@ -17,7 +17,7 @@ use Rattle.rules.specs.Code.{codeRails}
 use Rattle.rules.proofs.Codes.{code-length}
 use Rattle.faults.specs.Betrayal.{stuckAt}
 use Rattle.probe.specs.Findings.{Showable}
-use Rattle.search.specs.Words.{netOf}
+use Rattle.words.specs.Words.{netOf}
 use Rattle.probe.proofs.OneHold.{one-hold}
 
 module _ (file values buffer : List ℕ) where

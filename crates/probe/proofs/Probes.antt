@@ -14,7 +14,7 @@ use Rattle.probe.specs.declared.service.Way.{Way}
 use Rattle.probe.specs.declared.service.Way.the-variants.{BothHigh}
 use Rattle.faults.specs.Betrayal.{stuckAt, noCode, betrays, smallestInput, lowestIn}
 use Rattle.probe.specs.Service.{wayOf, foundAt}
-use Rattle.search.specs.Words.{netOf}
+use Rattle.words.specs.Words.{netOf}
 use Rattle.faults.proofs.Least.{least-first}
 
 -- A value that is not 0 is high.

@@ -15,7 +15,7 @@ use Rattle.synthesis.specs.Service.{fileWith}
 use Rattle.probe.specs.declared.service.Probed.{Probed}
 use Rattle.faults.specs.Betrayal.{stuckAt, smallestInput}
 use Rattle.probe.specs.Service.{foundAt}
-use Rattle.search.specs.Words.{netOf, Searchable}
+use Rattle.words.specs.Words.{netOf, Searchable}
 
 -- The diagram of an accepted table.
 pub record Drawn (d : Diagram) : Type 0 where

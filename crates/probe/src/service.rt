@@ -17,7 +17,7 @@ ghost use Rattle.rules.specs.Code.{codeRails};
 ghost use Rattle.synthesis.specs.Service.{fileWith};
 ghost use Rattle.faults.specs.Betrayal.{stuckAt, noCode};
 ghost use Rattle.probe.specs.Service.{oneHold, wayOf, foundAt, refusedProbe, probingOn, probingOf};
-ghost use Rattle.search.specs.Words.{netOf};
+ghost use Rattle.words.specs.Words.{netOf};
 ghost use Rattle.probe.specs.Findings.{Showable, Writable, Findable, Found, Drawn};
 
 // How a pair without a code shows.
@@ -118,7 +118,7 @@ fn name_output(pairs: &[u8], lines: &[u8], input: u32) -> Probed
     ensures { λ r. ⌜ r ≡ foundAt (netOf 0 [] (now (pairs .entry))) input (now (lines .entry)) ⌝ }
 {
     let output = search::lowest(pairs, lines);
-    let on = search::value_at(pairs, 4 * (output as usize), lines);
+    let on = words::value_at(pairs, 4 * (output as usize), lines);
     let way = way_of(on);
     Probed {
         refusal: 0,
@@ -133,7 +133,7 @@ fn find(gates: &[u8], pairs: &[u8], n: usize, hold: &[u8], buffer: &mut [u8]) ->
     requires { ⌜ Findable n (now gates) (now pairs) (now hold) (length (now buffer)) ⌝ }
     ensures { λ r. ⌜ Found n (now (gates .entry)) (now (pairs .entry)) (now (hold .entry)) (now (buffer .entry)) r (now (buffer .exit)) ⌝ }
 {
-    let line = search::number_at(hold, 0);
+    let line = words::number_at(hold, 0);
     let input = search::search(gates, pairs, n, line, hold[2]);
     let start = write_at(gates, pairs, n, hold, input, buffer);
     let end = start + (2 + 2 * n + gates.len() / 5);

@@ -1,10 +1,5 @@
-pub mod Binding
 pub mod Cells
 pub mod Listing
 pub mod Standing
-pub mod Writing
-pub mod Rooms
-pub mod WrittenEntries
 pub mod WrittenRows
 pub mod WrittenTerms
-pub mod WrittenTrees

@@ -11,9 +11,9 @@ use Rattle.fields.specs.Bounded.{any}
 use Rattle.fields.proofs.Bounded.{any-at}
 use Rattle.rules.specs.declared.Entry.the-variants.{Never}
 use Rattle.rules.specs.Blocks.{Matrix, entryAt, isAlways, term}
-use Rattle.products.specs.Written.{entryOf, matrixOf, anyAlways, Listed, ended, dropped, taken}
+use Rattle.gates.specs.Written.{entryOf, matrixOf, anyAlways, Listed, ended, dropped, taken}
 use Rattle.products.proofs.Cells.{cell-at}
-use Rattle.products.proofs.Writing.{written-return}
+use Rattle.gates.proofs.Writing.{written-return}
 use Rattle.products.proofs.WrittenTerms.{Turned, turned-more}
 
 -- A list grows by the next middle node, or stays where its factor is never.

@@ -7,11 +7,11 @@ use lib.ListN.{length, getD, set}
 use Rattle.rules.specs.declared.Entry.{Entry}
 use Rattle.rules.specs.declared.Entry.the-variants.{Never}
 use Rattle.rules.specs.Blocks.{Matrix, entryAt, productEntry, product}
-use Rattle.products.specs.Written.{Written, RoomFor, rowOf, entryOf, RowStored, Stored}
-use Rattle.products.proofs.Binding.{sequence-length}
+use Rattle.gates.specs.Written.{Written, RoomFor, rowOf, entryOf, RowStored, Stored}
+use Rattle.gates.proofs.Binding.{sequence-length}
 use Rattle.products.proofs.Cells.{row-none, row-more, row-same, rows-none, rows-more, stored-same, before-last, at-last}
-use Rattle.products.proofs.Rooms.{room-turn}
-use Rattle.products.proofs.Writing.{written-none, written-more, written-own}
+use Rattle.gates.proofs.Rooms.{room-turn}
+use Rattle.gates.proofs.Writing.{written-none, written-more, written-own}
 
 -- What holds after the first columns of a row.
 pub record RowTurned (middle : ℕ) (left right : Matrix) (u first made columns : ℕ) (start out before cells : List ℕ) (total : ℕ) : Type 0 where

@@ -9,10 +9,10 @@ use Rattle.rules.specs.declared.Entry.{Entry}
 use Rattle.rules.specs.declared.Entry.the-variants.{Never, Always, Line}
 use Rattle.rules.specs.Make.{Make, sequence}
 use Rattle.rules.specs.Blocks.{Matrix, entryAt, term, linesIn}
-use Rattle.products.specs.Written.{Written, RoomFor, termsOf, Collected}
+use Rattle.gates.specs.Written.{Written, RoomFor, termsOf, Collected}
 use Rattle.rules.proofs.Entries.{lines-few}
-use Rattle.products.proofs.Rooms.{room-turn}
-use Rattle.products.proofs.Writing.{written-none, written-more, written-own}
+use Rattle.gates.proofs.Rooms.{room-turn}
+use Rattle.gates.proofs.Writing.{written-none, written-more, written-own}
 
 pub lines-append : (xs ys : List Entry) → linesIn (xs ++ ys) ≡ linesIn xs ++ linesIn ys
 lines-append [] ys = refl

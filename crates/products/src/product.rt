@@ -1,7 +1,6 @@
 // The product of two matrices that are stored by rows of eight lines.
 use crate::cell;
-use crate::join;
-use crate::join::Joined;
+use gates::Joined;
 use rules::Entry;
 ghost use mathlib.Core.Path.{_≡_};
 ghost use mathlib.Core.Bool.{_&&_};
@@ -11,7 +10,7 @@ ghost use lib.ListN.{length, getD, take};
 ghost use lib.Seq.{sets};
 ghost use Rattle.fields.specs.Bounded.{any};
 ghost use Rattle.rules.specs.Blocks.{isAlways, entryAt, linesIn, productEntry, product};
-ghost use Rattle.products.specs.Written.{Written, RoomFor, matrixOf, anyAlways, termsOf, rowOf, Listed, Collected, Stored, RowStored};
+ghost use Rattle.gates.specs.Written.{Written, RoomFor, matrixOf, anyAlways, termsOf, rowOf, Listed, Collected, Stored, RowStored};
 
 // How many lines are among the terms, and the number of gates made so far.
 struct Found {
@@ -119,7 +118,7 @@ fn terms(
     for i in 0..used.len() {
         let w = used[i];
         let factor = cell::cell(left, u, w);
-        let joined = join::term(factor, cell::cell(right, w, v), out, first, total);
+        let joined = gates::term(factor, cell::cell(right, w, v), out, first, total);
         total = joined.made;
         let found = joined.entry;
         count = collect(found, lines, count);
@@ -158,7 +157,7 @@ fn entry(
     }
     let mut kept = [0u16; 8];
     let found = terms(left, right, middle, u, v, used, &mut kept, out, first, made);
-    join::join_lines(&kept, found.count, out, first, found.made)
+    gates::join_lines(&kept, found.count, out, first, found.made)
 }
 
 // Row u of a product, its entries by column.

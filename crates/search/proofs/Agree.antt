@@ -12,8 +12,8 @@ use Rattle.netlist.specs.declared.Pair.{Pair}
 use Rattle.netlist.specs.Netlist.{pairAt}
 use Rattle.netlist.proofs.Lists.{getD-pairs}
 use Rattle.faults.specs.Betrayal.{noCode}
-use Rattle.search.specs.Words.{bitOf, bitsOf, netOf}
-use Rattle.search.proofs.Bits.{ones, bits-at, bit-or, bit-agree, bit-either}
+use Rattle.words.specs.Words.{bitOf, bitsOf, netOf}
+use Rattle.words.proofs.Bits.{ones, bits-at, bit-or, bit-agree, bit-either}
 
 -- An output of a netlist, as its bytes name it.
 pub agree-at : (pairs vs : List ℕ) (j : ℕ) → j < length pairs / 4 →

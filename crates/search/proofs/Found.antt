@@ -6,8 +6,8 @@ use mathlib.Core.Path.{_≡_, refl, sym, ap, _∙_}
 use mathlib.Core.Bool.{Bool, true, false}
 use Rattle.fields.specs.Bounded.{any}
 use Rattle.diagram.specs.Diagram.{bit}
-use Rattle.search.specs.Words.{bitOf}
-use Rattle.search.proofs.Bits.{bit-zero}
+use Rattle.words.specs.Words.{bitOf}
+use Rattle.words.proofs.Bits.{bit-zero}
 use Rattle.faults.proofs.Least.{First, within}
 
 set-true : (b : Bool) → bit b ≡ 1 → b ≡ true

@@ -11,9 +11,9 @@ use Rattle.netlist.specs.Netlist.{gateAt, listed}
 use lib.Seq.{getD-set-other, getD-take}
 use Rattle.simulation.specs.Run.{Rule, Driver, gate, workOut}
 use Rattle.netlist.proofs.Tests.{gates-at}
-use Rattle.search.specs.Words.{bitOf, bitsOf, gateWord, ruleOf, Puttable}
+use Rattle.words.specs.Words.{bitOf, bitsOf, gateWord, ruleOf, Puttable}
 use Rattle.search.proofs.Lines.{made-bit, gates-more}
-use Rattle.search.proofs.Bits.{bits-at}
+use Rattle.words.proofs.Bits.{bits-at}
 use Rattle.simulation.proofs.Runs.{run-first}
 
 -- At each bit the lines below gate g obey the run rule, and the line of the held word's constant is as it was.

@@ -1,6 +1,3 @@
-pub mod Bits
-pub mod Rails
-pub mod Trailing
 pub mod Found
 pub mod Lines
 pub mod Sources

@@ -17,8 +17,8 @@ use Rattle.netlist.proofs.Lists.{listed-more}
 use Rattle.simulation.proofs.Runs.{run-append}
 use Rattle.rules.specs.Code.{codeRails}
 use Rattle.faults.specs.Betrayal.{stuckAt}
-use Rattle.search.specs.Words.{bitOf, bitsOf, gateWord, heldWord, ruleOf, netOf}
-use Rattle.search.proofs.Bits.{ones, bit-zero, bit-ones, bits-at, bit-and, bit-or, bit-flip}
+use Rattle.words.specs.Words.{bitOf, bitsOf, gateWord, heldWord, ruleOf, netOf}
+use Rattle.words.proofs.Bits.{ones, bit-zero, bit-ones, bits-at, bit-and, bit-or, bit-flip}
 
 module _ (k line word : ℕ) where
   shows-bit : (x made : ℕ) → bitOf k (heldWord line word x made) ≡ ruleOf line word k .shows x (bitOf k made)

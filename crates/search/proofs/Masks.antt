@@ -8,7 +8,7 @@ use Rattle.diagram.specs.Diagram.{bit}
 use Rattle.netlist.specs.Netlist.{pairsOf}
 use Rattle.simulation.specs.Run.{valuesOf}
 use Rattle.faults.specs.Betrayal.{stuckAt, noCode, betrays}
-use Rattle.search.specs.Words.{bitOf, bitsOf, holdOf, netOf}
+use Rattle.words.specs.Words.{bitOf, bitsOf, holdOf, netOf}
 
 pub mask-tells : (n : ℕ) (gates pairs : List ℕ) (line word value base : ℕ) (ws : List ℕ) (mask : ℕ) →
     ((k : ℕ) → k < 64 → bitOf k mask ≡ bit (any (length (pairsOf pairs)) (noCode (netOf 0 [] pairs) (bitsOf k ws)))) →

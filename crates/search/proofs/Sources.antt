@@ -8,7 +8,7 @@ use mathlib.Core.Logic.{⊎-elim}
 use lib.ListN.{length, getD, set, length-set}
 use lib.Seq.{getD-set-same, getD-set-other}
 use Rattle.netlist.specs.Netlist.{gateAt}
-use Rattle.search.specs.Words.{heldWord, Sourced}
+use Rattle.words.specs.Words.{heldWord, Sourced}
 
 -- A gate more.
 module _ (first line value : ℕ) (gates sources : List ℕ) (g left right : ℕ) (room : 2 * g + 1 < length sources) where

@@ -1,6 +1,5 @@
 // The smallest code input that betrays a held line, and the lowest output that shows it.
 use crate::passes;
-use crate::words;
 ghost use mathlib.Core.Path.{_≡_};
 ghost use mathlib.Core.Bool.{true};
 ghost use mathlib.Core.List.{[]};
@@ -11,7 +10,7 @@ ghost use Rattle.diagram.specs.Diagram.{bit};
 ghost use Rattle.netlist.specs.Netlist.{pairsOf};
 ghost use Rattle.netlist.specs.Questions.{arePairs};
 ghost use Rattle.faults.specs.Betrayal.{noCode, least, smallestInput};
-ghost use Rattle.search.specs.Words.{bitOf, bitsOf, netOf, Searchable, Roomy};
+ghost use Rattle.words.specs.Words.{bitOf, bitsOf, netOf, Searchable, Roomy};
 
 // The inputs at which some output's true and false line agree.
 fn agreeing(pairs: &[u8], words: &[u64]) -> u64

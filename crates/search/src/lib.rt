@@ -1,9 +1,6 @@
 // The search for the smallest code input that betrays a stuck line, two words of 64 inputs a pass.
 mod inputs;
 mod passes;
-mod words;
 
 pub use inputs::lowest;
 pub use inputs::search;
-pub use words::number_at;
-pub use words::value_at;

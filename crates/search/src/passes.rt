@@ -1,5 +1,4 @@
 // Every line's words with a line held, at the 64 inputs from a base on and at the 64 after them.
-use crate::words;
 ghost use mathlib.Core.Path.{_≡_};
 ghost use mathlib.Core.List.{[], _∷_, map};
 ghost use Prim.Native.Nat.{ℕ, _+_, _*_, _/_, _%_, _≤_, _<_};
@@ -9,7 +8,7 @@ ghost use Rattle.netlist.specs.Netlist.{numberAt, gateLine, gatesOf};
 ghost use Rattle.simulation.specs.Run.{rail, gate, workOut};
 ghost use Rattle.rules.specs.Code.{codeRails};
 ghost use Rattle.faults.specs.Betrayal.{stuckAt};
-ghost use Rattle.search.specs.Words.{bitsOf, gateWord, heldWord, holdOf, ruleOf, netOf, Sourced, Puttable, Workable};
+ghost use Rattle.words.specs.Words.{bitsOf, gateWord, heldWord, holdOf, ruleOf, netOf, Sourced, Puttable, Workable};
 
 // A byte in 16 bits.
 fn wide(x: u8) -> u16

@@ -1,5 +1,3 @@
-pub mod Levels
-pub mod WrittenBlocks
 pub mod WrittenBoard
 pub mod WrittenPairs
 pub mod Scans

@@ -18,9 +18,9 @@ use Rattle.netlist.proofs.Files.{length-pair-bytes}
 use Rattle.netlist.proofs.Lists.{length-listed, listed-more}
 use Rattle.rules.specs.Blocks.{entryAt}
 use Rattle.rules.specs.Board.{lineOf, pairOf}
-use Rattle.products.specs.Written.{matrixOf}
+use Rattle.gates.specs.Written.{matrixOf}
 use Rattle.products.proofs.Cells.{entry-line, cell-at}
-use Rattle.products.proofs.Writing.{flat-append}
+use Rattle.gates.proofs.Writing.{flat-append}
 
 pub listed-same : {A : Type 0} (f g : ℕ → A) (count p : ℕ) → ((i : ℕ) → i < p + count → f i ≡ g i) → listed f count p ≡ listed g count p
 unfolding listed

@@ -1,5 +1,4 @@
 // The board of a diagram.
-use crate::block;
 use diagram::Diagram;
 ghost use mathlib.Core.Path.{_≡_};
 ghost use mathlib.Core.Bool.{true};
@@ -12,7 +11,7 @@ ghost use Rattle.diagram.specs.Questions.{Sized, inRange};
 ghost use Rattle.netlist.specs.Netlist.{gateBytes, pairBytes, listed};
 ghost use Rattle.rules.specs.Blocks.{Matrix};
 ghost use Rattle.rules.specs.Board.{pairOf, boardOf};
-ghost use Rattle.products.specs.Written.{matrixOf};
+ghost use Rattle.gates.specs.Written.{matrixOf};
 
 // Writes each output's true line and false line: columns 1 and 0 of its node's row.
 fn put_pairs(d: Diagram, cells: &[u16], pairs: &mut [u8])
@@ -24,8 +23,8 @@ fn put_pairs(d: Diagram, cells: &[u16], pairs: &mut [u8])
         let node = roots[j] as usize;
         let on = cells[8 * node + 1];
         let off = cells[8 * node];
-        products::put_number(pairs, 4 * j, on);
-        products::put_number(pairs, 4 * j + 2, off);
+        gates::put_number(pairs, 4 * j, on);
+        gates::put_number(pairs, 4 * j + 2, off);
     }
 }
 
@@ -39,7 +38,7 @@ pub fn synthesise(d: Diagram, out: &mut [u8], pairs: &mut [u8]) -> usize
 {
     let n = d.contacts;
     let mut cells = [0u16; 64];
-    let made = block::block(d, 0, n, &mut cells, out, 2 + 2 * n, 0);
+    let made = blocks::block(d, 0, n, &mut cells, out, 2 + 2 * n, 0);
     put_pairs(d, &cells, pairs);
     made
 }

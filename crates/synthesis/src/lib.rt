@@ -1,5 +1,4 @@
 // From a diagram to its two-rail netlist, gate for gate.
-mod block;
 mod board;
 mod depth;
 mod file;

@@ -12,7 +12,7 @@ use Rattle.synthesis.specs.Service.{fileWith}
 use Rattle.synthesis.proofs.Files.{length-file}
 use Rattle.faults.specs.Betrayal.{stuckAt, smallestInput}
 use Rattle.probe.specs.Service.{foundAt}
-use Rattle.search.specs.Words.{netOf}
+use Rattle.words.specs.Words.{netOf}
 use Rattle.probe.proofs.Findings.{read-behind, length-lines}
 use Rattle.probe.proofs.Probes.{found-same, betrayed-there}
 use Rattle.probe.proofs.service.find.Statement.{statement}

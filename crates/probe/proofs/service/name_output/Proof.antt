@@ -8,7 +8,7 @@ use Rattle.netlist.specs.Netlist.{pairsOf}
 use Rattle.netlist.proofs.Lists.{length-pairs}
 use Rattle.netlist.proofs.Tests.{pairs-at}
 use Rattle.faults.specs.Betrayal.{noCode}
-use Rattle.search.specs.Words.{netOf}
+use Rattle.words.specs.Words.{netOf}
 use Rattle.faults.proofs.Least.{least-first}
 use Rattle.probe.proofs.Probes.{found-by}
 use Rattle.probe.proofs.service.name_output.Statement.{statement}

@@ -7,7 +7,7 @@ use Rattle.netlist.specs.Netlist.{holdAt}
 use Rattle.synthesis.specs.Service.{fileWith}
 use Rattle.synthesis.proofs.Files.{length-file}
 use Rattle.faults.specs.Betrayal.{stuckAt}
-use Rattle.search.specs.Words.{netOf}
+use Rattle.words.specs.Words.{netOf}
 use Rattle.probe.proofs.Findings.{written-behind, lines-same}
 use Rattle.probe.proofs.service.write_at.Statement.{statement}
 use Rattle.probe.proofs.service.write_at.Tie as tie

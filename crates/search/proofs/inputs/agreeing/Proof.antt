@@ -11,9 +11,9 @@ use Rattle.netlist.specs.Netlist.{pairAt, pairsOf}
 use Rattle.netlist.proofs.Lists.{length-pairs}
 use Rattle.netlist.proofs.Tests.{PairIn, pairs-at}
 use Rattle.faults.specs.Betrayal.{noCode}
-use Rattle.search.specs.Words.{bitOf, bitsOf, netOf}
+use Rattle.words.specs.Words.{bitOf, bitsOf, netOf}
 use Rattle.search.proofs.Agree.{agree-more}
-use Rattle.search.proofs.Bits.{bit-zero}
+use Rattle.words.proofs.Bits.{bit-zero}
 use Rattle.search.proofs.inputs.agreeing.Statement.{statement}
 use Rattle.search.proofs.inputs.agreeing.Tie as tie
 

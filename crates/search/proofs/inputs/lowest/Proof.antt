@@ -13,7 +13,7 @@ use Rattle.netlist.specs.Netlist.{pairAt}
 use Rattle.netlist.proofs.Lists.{length-pairs}
 use Rattle.netlist.proofs.Tests.{PairIn, pairs-at}
 use Rattle.faults.specs.Betrayal.{noCode}
-use Rattle.search.specs.Words.{netOf}
+use Rattle.words.specs.Words.{netOf}
 use Rattle.search.proofs.Agree.{agree-at}
 use Rattle.faults.proofs.Least.{least-is, within}
 use Rattle.search.proofs.inputs.lowest.Statement.{statement}

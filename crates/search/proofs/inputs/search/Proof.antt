@@ -5,7 +5,7 @@ use native.Mathlib.Omega.{arith}
 use mathlib.Core.List.{List}
 use lib.ListN.{length, replicate, length-replicate}
 use Rattle.netlist.specs.Netlist.{gateLine}
-use Rattle.search.specs.Words.{Roomy}
+use Rattle.words.specs.Words.{Roomy}
 use Rattle.search.proofs.inputs.search.Statement.{statement}
 use Rattle.search.proofs.inputs.search.Tie as tie
 

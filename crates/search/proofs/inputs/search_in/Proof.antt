@@ -11,7 +11,7 @@ use lib.Pow.{pow-mono}
 use lib.Seq.{length-take-le}
 use Rattle.diagram.specs.Diagram.{bit}
 use Rattle.faults.specs.Betrayal.{betrays}
-use Rattle.search.specs.Words.{bitOf, netOf}
+use Rattle.words.specs.Words.{bitOf, netOf}
 use Rattle.search.proofs.Found.{clear-all, found}
 use Rattle.faults.proofs.Least.{least-is, within}
 use Rattle.search.proofs.Masks.{mask-tells}

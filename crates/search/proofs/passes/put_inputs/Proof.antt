@@ -8,7 +8,7 @@ use lib.ListN.{length-set}
 use Rattle.diagram.specs.Diagram.{inputOf}
 use Rattle.simulation.specs.Run.{rail, workOut}
 use Rattle.rules.specs.Code.{codeRails}
-use Rattle.search.specs.Words.{ruleOf}
+use Rattle.words.specs.Words.{ruleOf}
 use Rattle.search.proofs.Lines.{constants}
 use Rattle.search.proofs.passes.put_inputs.Statement.{statement}
 use Rattle.search.proofs.passes.put_inputs.Tie as tie

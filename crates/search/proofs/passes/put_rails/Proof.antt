@@ -9,7 +9,7 @@ use Rattle.diagram.specs.Diagram.{inputOf}
 use Rattle.netlist.specs.Netlist.{gateLine}
 use Rattle.simulation.specs.Run.{rail, workOut}
 use Rattle.rules.specs.Code.{codeRails}
-use Rattle.search.specs.Words.{bitsOf, ruleOf}
+use Rattle.words.specs.Words.{bitsOf, ruleOf}
 use Rattle.search.proofs.Lines.{rails-more}
 use Rattle.search.proofs.passes.put_rails.Statement.{statement}
 use Rattle.search.proofs.passes.put_rails.Tie as tie

@@ -4,7 +4,7 @@ use Prim.Native.Nat.{_+_, _-_, _/_, _≤_}
 use native.Mathlib.Omega.{arith}
 use mathlib.Core.Path.{_≡_, refl, ap, _∙_}
 use lib.ListN.{length, length-set}
-use Rattle.search.specs.Words.{heldWord, Sourced}
+use Rattle.words.specs.Words.{heldWord, Sourced}
 use Rattle.search.proofs.Sources.{sources-more}
 use Rattle.search.proofs.passes.take_sources.Statement.{statement}
 use Rattle.search.proofs.passes.take_sources.Tie as tie

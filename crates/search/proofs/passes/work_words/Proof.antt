@@ -6,7 +6,7 @@ use mathlib.Core.Path.{sym, ap, _∙_}
 use mathlib.Core.List.{map}
 use Rattle.netlist.specs.Netlist.{gateLine, gatesOf}
 use Rattle.simulation.specs.Run.{gate, workOut}
-use Rattle.search.specs.Words.{bitOf, holdOf, ruleOf}
+use Rattle.words.specs.Words.{bitOf, holdOf, ruleOf}
 use Rattle.search.proofs.Lines.{run-parts}
 use Rattle.search.proofs.GateWords.{constant-held}
 use Rattle.search.proofs.passes.work_words.Statement.{statement}

@@ -1,0 +1,82 @@
+-- An entry of a product as it is written: always, or the OR tree of its terms' lines.
+use Prim.Native.Nat.{ℕ, _+_, _-_, _≤_}
+use native.Mathlib.Omega.{arith}
+use mathlib.Core.Path.{_≡_}
+use mathlib.Core.Bool.{true, false}
+use mathlib.Core.List.{List, [], _∷_}
+use lib.ListN.{length, getD, take}
+use lib.Seq.{length-take-le}
+use Rattle.fields.specs.Bounded.{any}
+use Rattle.rules.specs.declared.Entry.{Entry}
+use Rattle.rules.specs.declared.Entry.the-variants.{Never, Always, Line}
+use Rattle.rules.specs.Make.{return}
+use Rattle.rules.specs.Blocks.{Matrix, linesIn, cut, orTree, joined, productEntry}
+use Rattle.gates.specs.Written.{Written, Room, RoomFor, termsOf, Collected}
+use Rattle.rules.proofs.Counts.{or-count}
+use Rattle.rules.proofs.Cuts.{size-cut}
+use Rattle.rules.proofs.Products.{sure, entry-always, entry-joined}
+use Rattle.gates.proofs.Rooms.{room-first, room-then}
+use Rattle.gates.proofs.Writing.{written-return, written-bind}
+use Rattle.gates.proofs.WrittenTrees.{tree-one}
+
+joined-tree : (ls : List ℕ) (count : ℕ) {first made y total : ℕ} {before after : List ℕ} → length ls ≡ count → 1 ≤ count →
+    Written (orTree (cut count) ls) first made before after y total →
+    Written (joined ls) first made before after (Line y) total
+unfolding joined
+joined-tree [] count e some w = absurd (omega arith)
+joined-tree (x ∷ ls) count e some w = written-bind (λ y. return (Line y)) (rw (← e) at w) (written-return _)
+
+joined-room : (ls : List ℕ) (count : ℕ) {first made : ℕ} {out : List ℕ} → length ls ≡ count → 1 ≤ count →
+    RoomFor (joined ls) first made out → Room first made (count - 1) out
+unfolding joined
+joined-room [] count e some room = absurd (omega arith)
+joined-room (x ∷ ls) count {first} {made} e some room =
+    let tree = room-first _ (λ y. return (Line y)) room in
+    let size = size-cut (length (x ∷ ls)) (omega arith) in
+    let made = or-count (cut (length (x ∷ ls))) (x ∷ ls) .from (first + made) in
+    record { lines = omega (arith, tree .lines); bytes = omega (arith, tree .bytes) }
+
+-- Lines joined: none, a single one, or their OR tree.
+module _ (lines : List ℕ) (count : ℕ) {first made : ℕ} {start : List ℕ} where
+  pub lines-none : count ≡ 0 → Written (joined (take count lines)) first made start start Never made
+  unfolding joined
+  lines-none e = rw e (written-return Never)
+
+  module _ (some : 1 ≤ count) (few : count ≤ length lines) where
+    pub lines-tree : {y total : ℕ} {after : List ℕ} → Written (orTree (cut count) (take count lines)) first made start after y total →
+        Written (joined (take count lines)) first made start after (Line y) total
+    lines-tree w = joined-tree (take count lines) count (length-take-le count lines few) some w
+
+    pub lines-room : RoomFor (joined (take count lines)) first made start → Room first made (count - 1) start
+    lines-room room = joined-room (take count lines) count (length-take-le count lines few) some room
+
+  pub lines-one : count ≡ 1 → 1 ≤ length lines → Written (joined (take count lines)) first made start start (Line (getD lines 0 0)) made
+  lines-one one few =
+      let same : made + count - 1 ≡ made = omega arith in
+      rw same at (lines-tree (omega arith) (omega arith) (tree-one lines first made 0 count one))
+
+module _ (middle : ℕ) (left right : Matrix) (u v : ℕ) {first made : ℕ} {start : List ℕ} where
+  pub entry-sure : any middle (sure left right u v) ≡ true →
+      Written (productEntry middle left right u v) first made start start Always made
+  entry-sure e = rw (entry-always middle left right u v e) (written-return Always)
+
+  module _ {total count : ℕ} {out lines : List ℕ} {ts : List Entry} (e : any middle (sure left right u v) ≡ false)
+      (w : Written (termsOf middle left right u v) first made start out ts total) (collected : Collected ts lines count) where
+    pub entry-joins : {y : Entry} {next : ℕ} {after : List ℕ} → Written (joined (take count lines)) first total out after y next →
+        Written (productEntry middle left right u v) first made start after y next
+    unfolding termsOf
+    entry-joins s =
+        rw (entry-joined middle left right u v e)
+        (written-bind (λ ts. joined (linesIn ts)) w (rw (collected .found) s))
+
+    pub entry-rest : RoomFor (productEntry middle left right u v) first made start → length out ≡ length start →
+        RoomFor (joined (take count lines)) first total out
+    unfolding termsOf
+    entry-rest room kept =
+        rw (collected .found) at
+        (room-then _ (λ ts. joined (linesIn ts)) (rw (entry-joined middle left right u v e) at room) w kept)
+
+  pub entry-terms : any middle (sure left right u v) ≡ false → RoomFor (productEntry middle left right u v) first made start →
+      RoomFor (termsOf middle left right u v) first made start
+  unfolding termsOf
+  entry-terms e room = room-first _ (λ ts. joined (linesIn ts)) (rw (entry-joined middle left right u v e) at room)

@@ -1,0 +1,8 @@
+// The gates of a product's entry: the ANDs of its terms, and the ORs that join them.
+mod gate;
+mod join;
+
+pub use gate::put_number;
+pub use join::Joined;
+pub use join::join_lines;
+pub use join::term;

@@ -1,0 +1,3 @@
+pub mod Bits
+pub mod Rails
+pub mod Trailing

@@ -1,0 +1,19 @@
+-- `faults::words::value_at` meets its contract, by that of `number_at`.
+use borrow.Author.Needs.{needs}
+use mathlib.Core.Path.{ap}
+use lib.ListN.{getD}
+use Prim.Native.Nat.{ℕ}
+use Rattle.words.proofs.words.value_at.Statement.{statement}
+use Rattle.words.proofs.words.value_at.Tie as tie
+
+number-at-requires : tie.Need-number-at-requires
+number-at-requires c κs = search needs
+
+shared-slice-read-result : tie.Need-shared-slice-read-result
+shared-slice-read-result c = search needs
+
+returns : tie.Need-returns
+returns c = ap (λ (i : ℕ). getD (c .before .before .before .before .args .lines .now) i 0) (c .before .number-at .ensures)
+
+pub value-at-spec : {M : Type 1} → statement M
+value-at-spec = tie.close (tie.spec number-at-requires shared-slice-read-result returns)

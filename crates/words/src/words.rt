@@ -1,0 +1,84 @@
+// Words of 64 inputs: bit k of a line's word is the line's value at input base + k.
+ghost use mathlib.Core.Path.{_≡_};
+ghost use Prim.Native.Nat.{ℕ, _+_, _%_, _≤_, _<_};
+ghost use lib.ListN.{length, getD};
+ghost use Rattle.diagram.specs.Diagram.{bit, inputOf};
+ghost use Rattle.netlist.specs.Netlist.{numberAt};
+ghost use Rattle.words.specs.Words.{bitOf, gateWord, heldWord};
+
+pub const ONES: u64 = 0xFFFF_FFFF_FFFF_FFFF;
+
+// The true rails' words of contacts 0 to 5, at every base that is a multiple of 64.
+const PATTERNS: [u64; 6] = [
+    0xAAAA_AAAA_AAAA_AAAA,
+    0xCCCC_CCCC_CCCC_CCCC,
+    0xF0F0_F0F0_F0F0_F0F0,
+    0xFF00_FF00_FF00_FF00,
+    0xFFFF_0000_FFFF_0000,
+    0xFFFF_FFFF_0000_0000,
+];
+
+// The number of two bytes at a place.
+pub fn number_at(bytes: &[u8], at: usize) -> usize
+    requires { ⌜ at + 2 ≤ length (now bytes) ⌝ }
+    ensures { λ r. ⌜ r ≡ numberAt (now (bytes .entry)) at ⌝ }
+{
+    fields::number(bytes[at], bytes[at + 1])
+}
+
+// The word of the line that two bytes name.
+pub fn word_at(bytes: &[u8], at: usize, words: &[u64]) -> u64
+    requires { ⌜ (at + 2 ≤ length (now bytes)) × (numberAt (now bytes) at < length (now words)) ⌝ }
+    ensures { λ r. ⌜ r ≡ getD (now (words .entry)) (numberAt (now (bytes .entry)) at) 0 ⌝ }
+{
+    words[number_at(bytes, at)]
+}
+
+// The value of the line that two bytes name.
+pub fn value_at(bytes: &[u8], at: usize, lines: &[u8]) -> u8
+    requires { ⌜ (at + 2 ≤ length (now bytes)) × (numberAt (now bytes) at < length (now lines)) ⌝ }
+    ensures { λ r. ⌜ r ≡ getD (now (lines .entry)) (numberAt (now (bytes .entry)) at) 0 ⌝ }
+{
+    lines[number_at(bytes, at)]
+}
+
+// A value at all 64 inputs.
+pub fn same_word(value: u8) -> u64
+    requires { ⌜ value ≤ 1 ⌝ }
+    ensures { λ r. ⌜ ((k : ℕ) → k < 64 → bitOf k r ≡ value) ⌝ }
+{
+    if value == 0 { 0 } else { ONES }
+}
+
+// The word of a contact's true rail.
+pub fn rail_word(contact: usize, base: usize) -> u64
+    requires { ⌜ (contact < 12) × (base % 64 ≡ 0) ⌝ }
+    ensures { λ r. ⌜ ((k : ℕ) → k < 64 → bitOf k r ≡ bit (inputOf (base + k) contact)) ⌝ }
+{
+    if contact < 6 {
+        return PATTERNS[contact];
+    }
+    if (base >> contact) % 2 == 0 { 0 } else { ONES }
+}
+
+// What a gate makes of two words: AND (kind 0) or OR.
+pub fn make_word(kind: u8, a: u64, b: u64) -> u64
+    ensures { λ r. ⌜ r ≡ gateWord kind a b ⌝ }
+{
+    if kind == 0 { a & b } else { a | b }
+}
+
+// What a line shows, given what its driver makes.
+pub fn show_word(line: usize, word: u64, at: usize, made: u64) -> u64
+    ensures { λ r. ⌜ r ≡ heldWord line word at made ⌝ }
+{
+    if line == at { word } else { made }
+}
+
+// The place of the lowest set bit of a word.
+pub fn lowest_bit(word: u64) -> u32
+    requires { ⌜ 0 < word ⌝ }
+    ensures { λ r. ⌜ (r < 64) × (bitOf r word ≡ 1) × ((k : ℕ) → k < r → bitOf k word ≡ 0) ⌝ }
+{
+    u64::trailing_zeros(word)
+}
