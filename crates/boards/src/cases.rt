@@ -9,10 +9,10 @@
 //     r NAME: NETLIST / ROOM / FROM / HOLDS / RAILS / PAIRS     a run with two buffers, the first shown from a place on
 //     g NAME: COUNT / ROOM / FROM / HOLDS / RAILS / PAIRS       the same, of a row of so many gates
 //     p NAME: TABLE / ROOM / FROM / HOLD                        a probe with a buffer that is shown from a place on
-use crate::files;
 use crate::netlists;
 use crate::print;
 use crate::probes;
+use crate::rows;
 use crate::runs;
 use crate::spelling;
 use crate::tables;
@@ -52,9 +52,9 @@ fn show_spelt(kind: u8, case: &[u8; 1024]) {
 }
 
 fn show(kind: u8, case: &[u8]) {
-    let file = fields::nth(case, 0);
+    let file = reader::nth(case, 0);
     match kind {
-        b'f' => files::show(file),
+        b'f' => rows::show(file),
         b't' => tables::show(file),
         b'i' => tables::show_at(file, case),
         b'b' => netlists::show(file),

@@ -1,9 +1,9 @@
 // Shows the cases that stand on standard input, one on each line: what a service makes of each.
 mod cases;
-mod files;
 mod netlists;
 mod print;
 mod probes;
+mod rows;
 mod runs;
 mod spelling;
 mod tables;

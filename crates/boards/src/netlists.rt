@@ -38,8 +38,8 @@ fn show_checked(checked: Checked) {
 
 // A netlist file's gates and outputs.
 fn show_file(file: &[u8]) {
-    show_gates(fields::nth(file, 1), fields::byte(fields::nth(file, 0), 0));
-    show_outputs(fields::nth(file, 2));
+    show_gates(reader::nth(file, 1), fields::byte(reader::nth(file, 0), 0));
+    show_outputs(reader::nth(file, 2));
 }
 
 // The gates from the first line past the rails on, eight to a row.

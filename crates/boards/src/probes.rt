@@ -8,7 +8,7 @@ pub fn show(table: &[u8], case: &[u8]) {
     let len = spelling::number(case, 1, 10568);
     let from = spelling::number(case, 2, 10568);
     let mut lent = [b'.'; 10568];
-    let probed = probe::probe(table, fields::nth(case, 3), &mut lent[0..len]);
+    let probed = probe::probe(table, reader::nth(case, 3), &mut lent[0..len]);
     print::form(
         b": %, input %, output %",
         probed.refusal as usize,

@@ -11,8 +11,8 @@ pub fn show(netlist: &[u8], case: &[u8]) {
     let mut pairs = [b'.'; 10568];
     let refusal = simulation::run(
         netlist,
-        fields::nth(case, 4),
-        fields::nth(case, 3),
+        reader::nth(case, 4),
+        reader::nth(case, 3),
         &mut lines[0..lines_len],
         &mut pairs[0..pairs_len],
     );
@@ -32,8 +32,8 @@ pub fn show_row(case: &[u8]) {
     file[4] = 4;
     file[5] = (gate_bytes / 256) as u8;
     file[6] = (gate_bytes % 256) as u8;
-    fields::put_field(&mut file, 0, 1, b"\x01");
+    files::put_field(&mut file, 0, 1, b"\x01");
     let pair = [(last / 256) as u8, (last % 256) as u8, 0, 3];
-    fields::put_field(&mut file, 7 + gate_bytes, 5, &pair);
+    files::put_field(&mut file, 7 + gate_bytes, 5, &pair);
     show(&file[0..14 + gate_bytes], case);
 }

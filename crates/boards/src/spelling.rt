@@ -65,7 +65,7 @@ pub fn number(case: &[u8], part: usize, bound: usize) -> usize
     requires { ⌜ 0 < bound ⌝ }
     ensures { λ r. ⌜ r < bound ⌝ }
 {
-    let n = digits(fields::nth(case, part));
+    let n = digits(reader::nth(case, part));
     if n < bound {
         return n;
     }

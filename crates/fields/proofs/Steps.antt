@@ -16,7 +16,6 @@ use Rattle.fields.specs.declared.Step.{Step}
 use Rattle.fields.specs.declared.Step.the-variants.{Next, End, Cut}
 use Rattle.fields.proofs.Step.{the-type}
 use Rattle.fields.specs.Fields.{fieldAt, past, stepAt, itemOf, before, Fields, fieldsAfter, fieldsWithin, fieldsFrom, fieldsOf}
-use Rattle.fields.specs.Found.{foundIn}
 
 module _ (file : List ℕ) (at : ℕ) where
   pub step-end : length file ≤ at → End ≡ stepAt file at
@@ -117,9 +116,3 @@ pub ended : (file : List ℕ) (at : ℕ) (s : Step) → stepAt file at ≡ s →
 ended file at (Next f c) e o = absurd (⊎-elim (λ z. omega arith) (λ z. omega arith) o)
 ended file at End e o = ap (λ (fs : Fields). fs .items) (walk file at e)
 ended file at Cut e o = ap (λ (fs : Fields). fs .items) (walk file at e)
-
--- A step that found no field has no value.
-pub none-found : (file : List ℕ) (s : Step) → OneOf (1 ∷ 2 ∷ []) (tagOf the-type s) → [] ≡ foundIn file s
-none-found file (Next f c) o = absurd (⊎-elim (λ z. omega arith) (λ z. omega arith) o)
-none-found file End o = refl
-none-found file Cut o = refl

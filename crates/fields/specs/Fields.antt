@@ -1,7 +1,7 @@
 -- Files as rows of fields: one tag byte, two length bytes (high byte first), the value.
 use Prim.Native.Nat.{ℕ, zero, suc, _+_, _*_, _/_, _%_, _<_}
 use mathlib.Core.Bool.{cond}
-use mathlib.Core.List.{List, [], _∷_, _++_}
+use mathlib.Core.List.{List, [], _∷_, _++_, map}
 use lib.Dec.{leb}
 use lib.ListN.{length, getD, take, drop}
 use Rattle.fields.specs.declared.Field.{Field}
@@ -71,6 +71,10 @@ fieldsFrom file at = fieldsWithin (suc (length file)) file at
 
 unfoldable pub fieldsOf : List ℕ → Fields
 fieldsOf file = fieldsFrom file 0
+
+-- The value of the field at place k; nothing where there is none.
+abbrev pub valueIn : List Item → ℕ → List ℕ
+valueIn is k = getD (map (λ (i : Item). i .value) is) k []
 
 -- The bytes of a field, and of a row of them.
 abbrev pub fieldBytes : Item → List ℕ

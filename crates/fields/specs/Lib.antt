@@ -1,5 +1,4 @@
 pub mod Fields
-pub mod Found
 pub mod Walk
 pub mod Bounded
-pub mod Header
+pub mod Refusals

@@ -1,17 +1,7 @@
 // Files as rows of fields: one tag byte, two length bytes (high byte first), the value.
-mod header;
-mod reader;
-mod write;
-
-pub use header::Contacts;
-pub use header::byte;
-pub use header::count_contacts;
-pub use header::nth;
-pub use reader::Reader;
-pub use write::put_field;
 ghost use mathlib.Core.Path.{_≡_};
 ghost use Rattle.fields.specs.Fields.{stepAt, valueOf, fieldsFrom, fieldsOf, numberOf};
-ghost use lib.ListN.{drop};
+ghost use lib.ListN.{getD, drop};
 
 // One field of a file: its tag, and the place and the length of its value.
 pub struct Field {
@@ -96,6 +86,13 @@ pub fn number(high: u8, low: u8) -> usize
     ensures { λ r. ⌜ r ≡ numberOf high low ⌝ }
 {
     high as usize * 256 + low as usize
+}
+
+// The byte at a place, or 0.
+pub fn byte(bytes: &[u8], at: usize) -> u8
+    ensures { λ r. ⌜ r ≡ getD (now (bytes .entry)) at 0 ⌝ }
+{
+    if at < bytes.len() { bytes[at] } else { 0 }
 }
 
 // The value of a field, as that part of the file.

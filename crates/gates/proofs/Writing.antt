@@ -7,7 +7,7 @@ use mathlib.Core.Path.{_≡_, refl, sym, ap, _∙_}
 use mathlib.Core.List.{List, [], _∷_, _++_, append-assoc, flatMap}
 use lib.ListN.{length, length-append, set}
 use lib.Seq.{sets}
-use Rattle.fields.proofs.Written.{sets-more}
+use Rattle.files.proofs.Written.{sets-more}
 use Rattle.netlist.specs.Netlist.{gateBytes}
 use Rattle.netlist.proofs.Files.{length-gate-bytes}
 use Rattle.rules.specs.Make.{Make, return, _>>=_, gate, sequence}

@@ -9,10 +9,11 @@ use lib.Dec.{leb, eqb}
 use lib.ListN.{length, getD, drop}
 use Rattle.fields.specs.declared.Framing.{Framing}
 use Rattle.fields.specs.declared.Framing.the-variants.{Whole, Broken}
-use Rattle.fields.specs.declared.header.Contacts.the-variants.{Counted, Uncounted}
-use Rattle.fields.specs.Fields.{Item, Fields, fieldsOf}
-use Rattle.fields.specs.Header.{between, valueIn, framingNumber, contactsIn, contactsNumber, firstNo}
+use Rattle.fields.specs.Fields.{Item, Fields, fieldsOf, valueIn}
+use Rattle.fields.specs.Refusals.{between, framingNumber, firstNo}
 use Rattle.fields.proofs.Bounded.{and-left, and-right}
+use Rattle.files.specs.declared.header.Contacts.the-variants.{Counted, Uncounted}
+use Rattle.files.specs.Header.{contactsIn, contactsNumber}
 use Rattle.netlist.specs.declared.form.Form.{Form}
 use Rattle.netlist.specs.declared.form.Form.the-variants.{Formed, Unformed}
 use Rattle.netlist.specs.declared.wiring.Wiring.the-variants.{Sound, Unsound}

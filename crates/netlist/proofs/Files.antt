@@ -10,9 +10,10 @@ use lib.ListN.{length, getD, length-append}
 use lib.Seq.{ext-getD, getD-append-add}
 use Rattle.fields.specs.declared.Framing.the-variants.{Whole}
 use Rattle.fields.specs.Fields.{Item, Fields, fieldsOf, encoded}
-use Rattle.fields.specs.Header.{contactsIn, firstNo}
+use Rattle.fields.specs.Refusals.{firstNo}
 use Rattle.fields.proofs.Bounded.{all-of}
 use Rattle.fields.proofs.Encoding.{of-encoded}
+use Rattle.files.specs.Header.{contactsIn}
 use Rattle.netlist.specs.declared.Gate.{Gate}
 use Rattle.netlist.specs.declared.Pair.{Pair}
 use Rattle.netlist.specs.declared.form.Form.the-variants.{Formed}

@@ -7,13 +7,14 @@ use mathlib.Core.List.{List, [], _∷_}
 use lib.Dec.{eqb}
 use lib.ListN.{length, getD, drop}
 use Rattle.fields.specs.declared.Framing.the-variants.{Whole, Broken}
-use Rattle.fields.specs.declared.header.Contacts.the-variants.{Counted, Uncounted}
 use Rattle.fields.specs.declared.Field.{Field}
 use Rattle.fields.specs.declared.Cursor.{Cursor}
 use Rattle.fields.specs.declared.Step.the-variants.{Next}
-use Rattle.fields.specs.Fields.{Item, Fields, itemOf, stepAt, fieldsFrom, fieldsOf}
-use Rattle.fields.specs.Header.{between, valueIn, contactsIn}
+use Rattle.fields.specs.Fields.{Item, Fields, itemOf, stepAt, fieldsFrom, fieldsOf, valueIn}
+use Rattle.fields.specs.Refusals.{between}
 use Rattle.fields.proofs.Steps.{from-start, items-next}
+use Rattle.files.specs.declared.header.Contacts.the-variants.{Counted, Uncounted}
+use Rattle.files.specs.Header.{contactsIn}
 use Rattle.netlist.specs.declared.form.Form.the-variants.{Formed, Unformed}
 use Rattle.netlist.specs.Questions.{hasParts, areParts, formOf}
 

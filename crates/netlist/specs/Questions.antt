@@ -5,8 +5,9 @@ use mathlib.Core.List.{List, [], _∷_}
 use lib.Dec.{leb, ltb, eqb}
 use lib.ListN.{length, getD, drop}
 use Rattle.fields.specs.Bounded.{all}
-use Rattle.fields.specs.Fields.{Item, Fields, fieldsOf}
-use Rattle.fields.specs.Header.{between, valueIn, framingNumber, contactsIn, contactsNumber, firstNo}
+use Rattle.fields.specs.Fields.{Item, Fields, fieldsOf, valueIn}
+use Rattle.fields.specs.Refusals.{between, framingNumber, firstNo}
+use Rattle.files.specs.Header.{contactsIn, contactsNumber}
 use Rattle.netlist.specs.declared.Gate.{Gate}
 use Rattle.netlist.specs.declared.Pair.{Pair}
 use Rattle.netlist.specs.declared.Hold.{Hold}

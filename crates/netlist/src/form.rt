@@ -2,11 +2,11 @@
 use crate::Gate;
 use crate::Hold;
 use crate::Pair;
-use fields::Contacts;
 use fields::Cursor;
 use fields::Field;
 use fields::Framing;
 use fields::Step;
+use files::Contacts;
 ghost use mathlib.Core.Path.{_≡_};
 ghost use Prim.Native.Nat.{_+_, _*_, _≤_, _<_};
 ghost use lib.ListN.{length, drop};
@@ -66,7 +66,7 @@ pub fn ask_form(file: &[u8]) -> Form
     let Framing::Whole = fields::whole(file) else {
         return Form::Unformed;
     };
-    let Contacts::Counted(n) = fields::count_contacts(file) else {
+    let Contacts::Counted(n) = files::count_contacts(file) else {
         return Form::Unformed;
     };
     if !are_parts(file) {

@@ -3,7 +3,8 @@ use mathlib.Core.Path.{refl}
 use Rattle.pilgodur.specs.Starred.{AllHold, starred}
 use Rattle.fields.specs.Bounded.{all, any}
 use Rattle.fields.specs.Fields.{stepAt, valueOf, fieldsWithin, fieldsFrom, fieldsOf, encoded}
-use Rattle.fields.specs.Header.{contactsIn, firstNo}
+use Rattle.fields.specs.Refusals.{firstNo}
+use Rattle.files.specs.Header.{contactsIn}
 use Rattle.diagram.specs.Diagram.{width, edgeAt, root, inputOf}
 use Rattle.diagram.specs.Questions.{inRange, distinct, mention, mentions, brought, numbered, branching}
 use Rattle.table.specs.Table.{outputsIn, areLevels, padded, diagramOf, fieldsRefusal, diagramRefusal, tableRefusal}

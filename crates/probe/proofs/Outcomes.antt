@@ -3,7 +3,7 @@ use Prim.Native.Nat.{ℕ, zero, suc, _+_, _*_}
 use mathlib.Core.Path.{_≡_, refl, sym, ap, ap₂, _∙_}
 use mathlib.Core.List.{List, [], _∷_, _++_}
 use lib.ListN.{length}
-use Rattle.fields.specs.Header.{firstNo}
+use Rattle.fields.specs.Refusals.{firstNo}
 use Rattle.diagram.specs.declared.Diagram.{Diagram}
 use Rattle.table.specs.declared.reading.Table.{Table}
 use Rattle.table.specs.Table.{tableRefusal, tableOf}

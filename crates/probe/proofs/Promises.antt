@@ -3,7 +3,7 @@ use Prim.Native.Nat.{ℕ, zero, suc}
 use native.Mathlib.Omega.{arith}
 use mathlib.Core.Path.{_≡_, refl, ap}
 use mathlib.Core.List.{List, _∷_}
-use Rattle.fields.specs.Header.{firstNo}
+use Rattle.fields.specs.Refusals.{firstNo}
 use Rattle.table.specs.Promises.{Accepted}
 use Rattle.table.specs.Table.{tableRefusal}
 use Rattle.netlist.specs.Netlist.{lineCount, holdAt}

@@ -4,7 +4,7 @@ use mathlib.Core.Bool.{_&&_, cond}
 use mathlib.Core.List.{List, [], _∷_, _++_}
 use lib.Dec.{eqb}
 use lib.ListN.{length, getD}
-use Rattle.fields.specs.Header.{firstNo}
+use Rattle.fields.specs.Refusals.{firstNo}
 use Rattle.table.specs.Table.{tableRefusal}
 use Rattle.netlist.specs.declared.Hold.{Hold}
 use Rattle.netlist.specs.declared.drive.Holds.{Holds}

@@ -4,8 +4,8 @@ use Prim.Native.Nat.{ℕ, zero, suc, _+_, _*_, _/_}
 use mathlib.Core.Path.{_≡_, refl, sym, ap, ap₂, _∙_}
 use mathlib.Core.List.{List, [], _∷_}
 use lib.ListN.{length, length-append, length-map}
-use Rattle.fields.specs.Fields.{Item, fieldsOf}
-use Rattle.fields.specs.Header.{valueIn, firstNo}
+use Rattle.fields.specs.Fields.{Item, fieldsOf, valueIn}
+use Rattle.fields.specs.Refusals.{firstNo}
 use Rattle.netlist.specs.declared.form.Form.the-variants.{Formed, Unformed}
 use Rattle.netlist.specs.declared.wiring.Wiring.the-variants.{Sound, Unsound}
 use Rattle.netlist.specs.declared.drive.Rails.the-variants.{Driven, Undriven}

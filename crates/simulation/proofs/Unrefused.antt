@@ -9,7 +9,7 @@ use lib.Dec.{ltb, eqb}
 use lib.ListN.{length, getD, List·getD-eq-default}
 use Rattle.fields.specs.Bounded.{all}
 use Rattle.fields.specs.Fields.{fieldsOf}
-use Rattle.fields.specs.Header.{firstNo}
+use Rattle.fields.specs.Refusals.{firstNo}
 use Rattle.fields.proofs.Bounded.{all-at}
 use Rattle.netlist.specs.declared.Hold.{Hold}
 use Rattle.netlist.specs.declared.drive.Rails.{Rails}

@@ -3,7 +3,7 @@ use Prim.Native.Nat.{ℕ, zero, suc, _*_}
 use mathlib.Core.List.{List, [], _∷_, _++_}
 use lib.ListN.{length, drop}
 use Rattle.fields.specs.Fields.{fieldsOf}
-use Rattle.fields.specs.Header.{firstNo}
+use Rattle.fields.specs.Refusals.{firstNo}
 use Rattle.netlist.specs.Netlist.{Netlist, holdsOf, lineCount}
 use Rattle.netlist.specs.Questions.{railsOf, railsNumber, orderOf, holdsNumber, roomOf, roomNumber, netlistOf, netlistRefusal}
 use Rattle.simulation.specs.Run.{valuesOf, shownBy}

@@ -141,8 +141,8 @@ pub fn run(netlist: &[u8], rails: &[u8], holds: &[u8], lines: &mut [u8], pairs: 
     let Form::Formed(n) = netlist::ask_form(netlist) else {
         return 11;
     };
-    let gates = fields::nth(netlist, 1);
-    let outputs = fields::nth(netlist, 2);
+    let gates = reader::nth(netlist, 1);
+    let outputs = reader::nth(netlist, 2);
     let Wiring::Sound = netlist::ask_wiring(n, gates, outputs) else {
         return 12;
     };

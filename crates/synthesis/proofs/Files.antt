@@ -7,7 +7,7 @@ use mathlib.Core.List.{List, [], _∷_, _++_, append-assoc, append-nil, flatMap}
 use lib.ListN.{length, getD, take, drop, length-append}
 use lib.Seq.{sets, sets-eq, take-at}
 use Rattle.fields.specs.Fields.{fieldBytes, encoded}
-use Rattle.fields.proofs.Written.{sets-more}
+use Rattle.files.proofs.Written.{sets-more}
 use Rattle.netlist.specs.declared.Gate.{Gate}
 use Rattle.netlist.specs.Netlist.{Netlist, gateAt, listed, gatesOf, gateBytes, pairBytes, fileOf}
 use Rattle.simulation.specs.Service.{over}

@@ -6,7 +6,7 @@ use mathlib.Core.Bool.{true}
 use mathlib.Core.List.{List, [], _∷_, flatMap}
 use lib.ListN.{length, getD, take}
 use lib.Seq.{sets}
-use Rattle.fields.specs.Header.{firstNo}
+use Rattle.fields.specs.Refusals.{firstNo}
 use Rattle.diagram.specs.declared.Diagram.{Diagram}
 use Rattle.table.specs.declared.reading.Table.{Table}
 use Rattle.diagram.specs.Questions.{Sized, inRange}

@@ -11,7 +11,7 @@ use Rattle.diagram.specs.declared.Diagram.{Diagram}
 use Rattle.diagram.specs.Diagram.{root}
 use Rattle.diagram.specs.Questions.{Sized, inRange}
 use Rattle.diagram.proofs.Paths.{root-in}
-use Rattle.fields.proofs.Written.{sets-more}
+use Rattle.files.proofs.Written.{sets-more}
 use Rattle.netlist.specs.declared.Pair.{Pair}
 use Rattle.netlist.specs.Netlist.{pairBytes, listed}
 use Rattle.netlist.proofs.Files.{length-pair-bytes}

@@ -3,7 +3,7 @@ use Prim.Native.Nat.{ℕ, zero, suc}
 use mathlib.Core.List.{List, [], _∷_}
 use lib.ListN.{length}
 use Rattle.fields.specs.Fields.{encoded}
-use Rattle.fields.specs.Header.{firstNo}
+use Rattle.fields.specs.Refusals.{firstNo}
 use Rattle.table.specs.Table.{tableRefusal}
 use Rattle.netlist.specs.Netlist.{Netlist, fileOf}
 use Rattle.netlist.specs.Questions.{roomOf, roomNumber}

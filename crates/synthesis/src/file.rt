@@ -12,7 +12,7 @@ pub fn put_file(file: &mut [u8], n: usize, gates: &[u8], pairs: &[u8])
     ensures { λ _. ⌜ now (file .exit) ≡ over (fileWith n (now (gates .entry)) (now (pairs .entry))) (now (file .entry)) ⌝ }
 {
     let contacts = [n as u8];
-    fields::put_field(file, 0, 1, &contacts);
-    fields::put_field(file, 4, 4, gates);
-    fields::put_field(file, 7 + gates.len(), 5, pairs);
+    files::put_field(file, 0, 1, &contacts);
+    files::put_field(file, 4, 4, gates);
+    files::put_field(file, 7 + gates.len(), 5, pairs);
 }

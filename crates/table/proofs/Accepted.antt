@@ -6,9 +6,10 @@ use mathlib.Core.Bool.{Bool, true, false, cond}
 use mathlib.Core.List.{List, [], _∷_}
 use lib.ListN.{drop}
 use Rattle.fields.specs.declared.Framing.the-variants.{Whole}
-use Rattle.fields.specs.declared.header.Contacts.the-variants.{Counted}
 use Rattle.fields.specs.Fields.{fieldsOf}
-use Rattle.fields.specs.Header.{contactsIn, firstNo}
+use Rattle.fields.specs.Refusals.{firstNo}
+use Rattle.files.specs.declared.header.Contacts.the-variants.{Counted}
+use Rattle.files.specs.Header.{contactsIn}
 use Rattle.diagram.specs.declared.Diagram.{Diagram}
 use Rattle.table.specs.declared.fit.Outputs.the-variants.{Listed}
 use Rattle.diagram.specs.declared.sound.Range.the-variants.{Within, Outside}

@@ -5,8 +5,7 @@ use mathlib.Core.Path.{_≡_, refl, sym, ap, ap₂, _∙_}
 use mathlib.Core.List.{List, [], _∷_, _++_, map, flatMap, append-nil, append-assoc, map-append}
 use lib.ListN.{length, getD, set, drop, replicate, length-append, length-map}
 use lib.Seq.{paste}
-use Rattle.fields.specs.Fields.{Item}
-use Rattle.fields.specs.Header.{valueIn}
+use Rattle.fields.specs.Fields.{Item, valueIn}
 use Rattle.table.specs.Table.{padded, levelsOf, diagramOf}
 use Rattle.table.proofs.Padded.{length-padded, padded-none, padded-cut, padded-set, padded-paste, flat-append, length-flat}
 

@@ -5,8 +5,7 @@ use mathlib.Core.Path.{_≡_, refl, sym, ap, ap₂, _∙_}
 use mathlib.Core.List.{List, [], _∷_}
 use lib.ListN.{length, getD, drop}
 use lib.Seq.{drop-drop}
-use Rattle.fields.specs.Fields.{Bytes, Item, fieldsOf, encoded}
-use Rattle.fields.specs.Header.{valueIn}
+use Rattle.fields.specs.Fields.{Bytes, Item, fieldsOf, encoded, valueIn}
 use Rattle.fields.proofs.Encoding.{encoded-of}
 use Rattle.diagram.specs.Diagram.{width, edgeAt, root}
 use Rattle.table.specs.Encode.{row, tableItems, tableBytes}

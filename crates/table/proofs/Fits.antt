@@ -8,7 +8,7 @@ use mathlib.Core.List.{List, [], _∷_}
 use lib.Dec.{eqb}
 use lib.ListN.{length, drop}
 use Rattle.fields.specs.Fields.{Item, Fields, fieldsFrom, fieldsOf}
-use Rattle.fields.specs.Header.{between}
+use Rattle.fields.specs.Refusals.{between}
 use Rattle.fields.proofs.Steps.{from-start}
 use Rattle.table.specs.declared.fit.Outputs.the-variants.{Listed, Unlisted}
 use Rattle.table.specs.declared.fit.Levels.the-variants.{Given, Lacking}

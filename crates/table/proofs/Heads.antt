@@ -7,9 +7,10 @@ use mathlib.Core.List.{List, [], _∷_}
 use borrow.Author.Tests.{leb-true, eqb-true}
 use lib.Dec.{eqb, leb}
 use lib.ListN.{length, getD, drop}
-use Rattle.fields.specs.declared.header.Contacts.the-variants.{Counted, Uncounted}
-use Rattle.fields.specs.Fields.{Item}
-use Rattle.fields.specs.Header.{between, contactsIn, valueIn}
+use Rattle.fields.specs.Fields.{Item, valueIn}
+use Rattle.fields.specs.Refusals.{between}
+use Rattle.files.specs.declared.header.Contacts.the-variants.{Counted, Uncounted}
+use Rattle.files.specs.Header.{contactsIn}
 use Rattle.table.specs.declared.fit.Outputs.the-variants.{Listed, Unlisted}
 use Rattle.table.specs.Table.{outputsIn, isLevel, areLevels}
 

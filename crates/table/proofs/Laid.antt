@@ -4,8 +4,7 @@ use native.Mathlib.Omega.{arith}
 use mathlib.Core.Path.{_≡_, _∙_}
 use mathlib.Core.List.{List, [], map, flatMap}
 use lib.ListN.{length, getD, List·getD-map}
-use Rattle.fields.specs.Fields.{Item}
-use Rattle.fields.specs.Header.{valueIn}
+use Rattle.fields.specs.Fields.{Item, valueIn}
 use Rattle.diagram.specs.Diagram.{edgeAt, root}
 use Rattle.table.specs.Table.{padded, levelsOf, diagramOf}
 use Rattle.table.proofs.Heads.{field}

@@ -4,9 +4,10 @@ use mathlib.Core.Path.{_≡_}
 use mathlib.Core.List.{List, [], _∷_}
 use lib.ListN.{getD, drop}
 use Rattle.fields.specs.declared.Framing.{Framing}
-use Rattle.fields.specs.declared.header.Contacts.{Contacts}
-use Rattle.fields.specs.Fields.{fieldsOf}
-use Rattle.fields.specs.Header.{framingNumber, contactsIn, contactsNumber, valueIn, firstNo}
+use Rattle.fields.specs.Fields.{fieldsOf, valueIn}
+use Rattle.fields.specs.Refusals.{framingNumber, firstNo}
+use Rattle.files.specs.declared.header.Contacts.{Contacts}
+use Rattle.files.specs.Header.{contactsIn, contactsNumber}
 use Rattle.diagram.specs.declared.Diagram.{Diagram}
 use Rattle.table.specs.declared.fit.Outputs.{Outputs}
 use Rattle.table.specs.declared.fit.Levels.{Levels}

@@ -7,10 +7,11 @@ use mathlib.Core.List.{List, [], _∷_}
 use lib.ListN.{length, getD, drop}
 use Rattle.fields.specs.declared.Framing.{Framing}
 use Rattle.fields.specs.declared.Framing.the-variants.{Whole, Broken}
-use Rattle.fields.specs.declared.header.Contacts.{Contacts}
-use Rattle.fields.specs.declared.header.Contacts.the-variants.{Counted, Uncounted}
-use Rattle.fields.specs.Fields.{Item, fieldsOf}
-use Rattle.fields.specs.Header.{framingNumber, contactsIn, contactsNumber, valueIn, firstNo}
+use Rattle.fields.specs.Fields.{Item, fieldsOf, valueIn}
+use Rattle.fields.specs.Refusals.{framingNumber, firstNo}
+use Rattle.files.specs.declared.header.Contacts.{Contacts}
+use Rattle.files.specs.declared.header.Contacts.the-variants.{Counted, Uncounted}
+use Rattle.files.specs.Header.{contactsIn, contactsNumber}
 use Rattle.diagram.specs.declared.Diagram.{Diagram}
 use Rattle.table.specs.declared.fit.Outputs.{Outputs}
 use Rattle.table.specs.declared.fit.Outputs.the-variants.{Listed, Unlisted}

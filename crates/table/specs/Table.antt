@@ -4,8 +4,9 @@ use mathlib.Core.Bool.{Bool, true, false, _&&_, cond}
 use mathlib.Core.List.{List, [], _∷_, map, flatMap}
 use lib.Dec.{ltb, eqb}
 use lib.ListN.{length, getD, drop, replicate}
-use Rattle.fields.specs.Fields.{Item, fieldsOf}
-use Rattle.fields.specs.Header.{between, framingNumber, contactsIn, contactsNumber, valueIn, firstNo}
+use Rattle.fields.specs.Fields.{Item, fieldsOf, valueIn}
+use Rattle.fields.specs.Refusals.{between, framingNumber, firstNo}
+use Rattle.files.specs.Header.{contactsIn, contactsNumber}
 use Rattle.diagram.specs.declared.Diagram.{Diagram}
 use Rattle.table.specs.declared.fit.Outputs.{Outputs}
 use Rattle.table.specs.declared.fit.Outputs.the-variants.{Listed, Unlisted}

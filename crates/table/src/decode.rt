@@ -28,7 +28,7 @@ pub fn decode(file: &[u8]) -> Diagram
     let mut roots = [0u8; 8];
     let mut widths = [0usize; 12];
     let mut edges = [0u8; 192];
-    let list = fields::nth(file, 1);
+    let list = reader::nth(file, 1);
     put(&mut roots, 0, list, 8);
     let mut cursor = Cursor::new().skip(file, 2);
     let mut level = 0;
@@ -43,7 +43,7 @@ pub fn decode(file: &[u8]) -> Diagram
         level += 1;
     }
     Diagram {
-        contacts: fields::byte(fields::nth(file, 0), 0) as usize,
+        contacts: fields::byte(reader::nth(file, 0), 0) as usize,
         outputs: list.len(),
         roots: roots,
         widths: widths,

@@ -8,8 +8,8 @@ use diagram::Diagram;
 use diagram::Numbering;
 use diagram::Range;
 use diagram::Twins;
-use fields::Contacts;
 use fields::Framing;
+use files::Contacts;
 ghost use mathlib.Core.Path.{_≡_};
 ghost use Rattle.diagram.specs.Questions.{Sized};
 ghost use Rattle.table.specs.Table.{fieldsRefusal, diagramRefusal, refusedTable, tableOf, readingOf};
@@ -34,7 +34,7 @@ fn asked_of_fields(file: &[u8]) -> u32
     let Framing::Whole = fields::whole(file) else {
         return 1;
     };
-    let Contacts::Counted(n) = fields::count_contacts(file) else {
+    let Contacts::Counted(n) = files::count_contacts(file) else {
         return 2;
     };
     let Outputs::Listed(_) = fit::count_outputs(file) else {

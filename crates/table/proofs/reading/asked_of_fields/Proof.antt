@@ -4,9 +4,9 @@ use mathlib.Core.Path.{refl, sym, ap, _∙_}
 use mathlib.Core.List.{List}
 use lib.ListN.{getD, drop}
 use Rattle.fields.specs.declared.Framing.the-variants.{Whole, Broken}
-use Rattle.fields.specs.declared.header.Contacts.the-variants.{Counted, Uncounted}
-use Rattle.fields.specs.Fields.{Item, fieldsOf}
-use Rattle.fields.specs.Header.{valueIn, firstNo}
+use Rattle.fields.specs.Fields.{Item, fieldsOf, valueIn}
+use Rattle.fields.specs.Refusals.{firstNo}
+use Rattle.files.specs.declared.header.Contacts.the-variants.{Counted, Uncounted}
 use Rattle.table.specs.declared.fit.Outputs.the-variants.{Listed, Unlisted}
 use Rattle.table.specs.declared.fit.Levels.the-variants.{Given, Lacking}
 use Rattle.table.specs.Table.{levelsIn}

@@ -1,0 +1,28 @@
+// Fields written one after another.
+ghost use mathlib.Core.Path.{_≡_};
+ghost use Prim.Native.Nat.{_+_, _≤_, _<_};
+ghost use lib.ListN.{length};
+ghost use lib.Seq.{sets};
+ghost use Rattle.fields.specs.Fields.{fieldBytes};
+
+// Copies bytes to a file, from a place on.
+fn copy(file: &mut [u8], at: usize, value: &[u8])
+    requires { ⌜ at + length (now value) ≤ length (now file) ⌝ }
+    ensures { λ _. ⌜ now (file .exit) ≡ sets (now (file .entry)) at (now (value .entry)) ⌝ }
+{
+    for i in 0..value.len() {
+        file[at + i] = value[i];
+    }
+}
+
+// Writes a field, from a place on: its tag, its length (high byte first), its value.
+pub fn put_field(file: &mut [u8], at: usize, tag: u8, value: &[u8])
+    requires { ⌜ (length (now value) < 65536) × (at + 3 + length (now value) ≤ length (now file)) ⌝ }
+    ensures { λ _. ⌜ now (file .exit) ≡ sets (now (file .entry)) at (fieldBytes (record { tag = tag; value = now (value .entry) })) ⌝ }
+{
+    let len = value.len();
+    file[at] = tag;
+    file[at + 1] = (len / 256) as u8;
+    file[at + 2] = (len % 256) as u8;
+    copy(file, at + 3, value);
+}
