@@ -1,4 +1,4 @@
--- Questions 5 to 8 as the code asks them, over the widths and the edges of a diagram.
+-- Questions 5 to 8 as the code asks them, over the arrays of a diagram.
 use Prim.Native.Nat.{ℕ, zero, suc, _+_, _*_, _-_, _≤_, _<_}
 use native.Mathlib.Nat.{zero-add}
 use native.Mathlib.Numerals.{add-one}
@@ -8,7 +8,7 @@ use mathlib.Core.Bool.{Bool, _&&_, cond, and-true, and-assoc}
 use mathlib.Core.List.{List}
 use borrow.Author.Tests.{lt-ltb}
 use lib.Dec.{ltb}
-use lib.ListN.{getD}
+use lib.ListN.{length, getD}
 use Rattle.fields.specs.Bounded.{all, any}
 use Rattle.diagram.specs.declared.Diagram.{Diagram}
 use Rattle.diagram.specs.declared.sound.Range.the-variants.{Within, Outside}
@@ -17,6 +17,7 @@ use Rattle.diagram.specs.declared.sound.Numbering.the-variants.{InTurn, 
 use Rattle.diagram.specs.declared.sound.Branching.the-variants.{Throughout, Missing}
 use Rattle.diagram.specs.Bytes.{isBelow, isInTurn, isUnlike, isFork}
 use Rattle.diagram.specs.Diagram.{width, edgeAt, root}
+use Rattle.diagram.specs.Lent.{Fit, HasLevels, HasOutputs}
 use Rattle.diagram.specs.Questions.{Sized, inRange, distinct, mention, mentions, inTurn, numbered, branching, rangeOf, twinsOf, numberingOf, branchingOf}
 
 all-agree : (n : ℕ) (p q : ℕ → Bool) → ((i : ℕ) → i < n → p i ≡ q i) → all n p ≡ all n q
@@ -28,8 +29,9 @@ pub width-is : (d : Diagram) (l : ℕ) → l < d .contacts → getD (d .widths) 
 unfolding width
 width-is d l h = simp (lt-ltb _ _ h)
 
-pub width-small : (d : Diagram) → Sized d → (l : ℕ) → l < d .contacts → getD (d .widths) l 0 ≤ 8
-width-small d s l h = rw (width-is d l h) (s .widths l h .1)
+-- The arrays of a diagram within the limits can be lent.
+pub fit : (d : Diagram) → Sized d → length (d .widths) ≡ 12 → length (d .edges) ≡ 192 → Fit (d .contacts) (d .widths) (d .edges)
+fit d s w e = record { contacts = s .contacts; widths = w; edges = e; nodes = λ l h. rw (width-is d l h) (s .widths l h .1) }
 
 -- Question 8 of one level.
 abbrev pub forksAt : List ℕ → List ℕ → ℕ → Bool
@@ -39,9 +41,11 @@ branching-is : (d : Diagram) → all (d .contacts) (forksAt (d .widths) (d .edge
 unfolding branching edgeAt
 branching-is d = all-agree (d .contacts) _ _ (λ l h. ap (λ (w : ℕ). any w (isFork (d .edges) (l * 16))) (width-is d l h))
 
-pub branching-by : (d : Diagram) (b : Bool) → b ≡ all (d .contacts) (forksAt (d .widths) (d .edges)) →
+pub branching-by : {n : ℕ} {ws es : List ℕ} (d : Diagram) → HasLevels d n ws es → (b : Bool) → b ≡ all n (forksAt ws es) →
     cond b Throughout Missing ≡ branchingOf d
-branching-by d b e = ap (λ (t : Bool). cond t Throughout Missing) (e ∙ branching-is d)
+branching-by d h b e =
+    let f : b ≡ all (d .contacts) (forksAt (d .widths) (d .edges)) = rw (h .contacts, h .widths, h .edges) e in
+    ap (λ (t : Bool). cond t Throughout Missing) (f ∙ branching-is d)
 
 -- Question 6 of one level.
 abbrev pub unlikeAt : List ℕ → List ℕ → ℕ → Bool
@@ -51,8 +55,11 @@ distinct-is : (d : Diagram) → all (d .contacts) (unlikeAt (d .widths) (d .edge
 unfolding distinct edgeAt
 distinct-is d = all-agree (d .contacts) _ _ (λ l h. ap (λ (w : ℕ). all w (λ v. all v (isUnlike (d .edges) (l * 16) v))) (width-is d l h))
 
-pub twins-by : (d : Diagram) (b : Bool) → b ≡ all (d .contacts) (unlikeAt (d .widths) (d .edges)) → cond b Absent Present ≡ twinsOf d
-twins-by d b e = ap (λ (t : Bool). cond t Absent Present) (e ∙ distinct-is d)
+pub twins-by : {n : ℕ} {ws es : List ℕ} (d : Diagram) → HasLevels d n ws es → (b : Bool) → b ≡ all n (unlikeAt ws es) →
+    cond b Absent Present ≡ twinsOf d
+twins-by d h b e =
+    let f : b ≡ all (d .contacts) (unlikeAt (d .widths) (d .edges)) = rw (h .contacts, h .widths, h .edges) e in
+    ap (λ (t : Bool). cond t Absent Present) (f ∙ distinct-is d)
 
 -- Question 5 of the output list, and of the edges of one level.
 abbrev pub widthIn : List ℕ → ℕ → ℕ → ℕ
@@ -70,9 +77,12 @@ range-is d =
     (all-agree (d .contacts) _ _ (λ l h.
     ap₂ (λ (w m : ℕ). all (2 * w) (isBelow (d .edges) (l * 16) m)) (width-is d l h) (ap (widthIn (d .widths) (d .contacts)) (add-one l))))
 
-pub range-by : (d : Diagram) (a b : Bool) → a ≡ all (d .outputs) (isBelow (d .roots) 0 (widthIn (d .widths) (d .contacts) 0)) →
-    b ≡ all (d .contacts) (belowAt (d .contacts) (d .widths) (d .edges)) → cond (a && b) Within Outside ≡ rangeOf d
-range-by d a b e f = ap (λ (t : Bool). cond t Within Outside) (ap₂ _&&_ e f ∙ range-is d)
+pub range-by : {n m : ℕ} {ws es rs : List ℕ} (d : Diagram) → HasLevels d n ws es → HasOutputs d m rs → (a b : Bool) →
+    a ≡ all m (isBelow rs 0 (widthIn ws n 0)) → b ≡ all n (belowAt n ws es) → cond (a && b) Within Outside ≡ rangeOf d
+range-by d h g a b e f =
+    let e′ : a ≡ all (d .outputs) (isBelow (d .roots) 0 (widthIn (d .widths) (d .contacts) 0)) = rw (h .contacts, h .widths, g .outputs, g .roots) e in
+    let f′ : b ≡ all (d .contacts) (belowAt (d .contacts) (d .widths) (d .edges)) = rw (h .contacts, h .widths, h .edges) f in
+    ap (λ (t : Bool). cond t Within Outside) (ap₂ _&&_ e′ f′ ∙ range-is d)
 
 -- Question 7 of the levels past the first.
 abbrev pub turnAt : List ℕ → List ℕ → ℕ → Bool
@@ -83,11 +93,11 @@ unfolding all
 all-front zero p = and-true (p 0)
 all-front (suc n) p = sym (and-assoc (p 0) (all n (λ i. p (suc i))) (p (suc n))) ∙ ap (λ (b : Bool). b && p (suc n)) (all-front n p)
 
-numbered-is : (d : Diagram) → Sized d →
+numbered-is : (d : Diagram) → 1 ≤ d .contacts →
     (isInTurn (d .roots) 0 (d .outputs) (getD (d .widths) 0 0) && all (d .contacts - 1) (turnAt (d .widths) (d .edges))) ≡ numbered d
 unfolding numbered mention mentions edgeAt root
-numbered-is d s =
-    let n : d .contacts ≡ suc (d .contacts - 1) = let c = s .contacts in omega arith in
+numbered-is d c =
+    let n : d .contacts ≡ suc (d .contacts - 1) = omega arith in
     ap₂ _&&_
     (ap₂ (λ (f : ℕ → ℕ) (w : ℕ). inTurn f (d .outputs) w) (fun-ext (λ k. ap (λ (i : ℕ). getD (d .roots) i 0) (zero-add k))) (width-is d 0 (omega arith)))
     (all-agree (d .contacts - 1) _ _ (λ l h.
@@ -95,6 +105,9 @@ numbered-is d s =
     ∙ all-front (d .contacts - 1) (λ l. inTurn (mention d l) (mentions d l) (width d l))
     ∙ ap (λ (k : ℕ). all k (λ l. inTurn (mention d l) (mentions d l) (width d l))) (sym n)
 
-pub numbering-by : (d : Diagram) → Sized d → (a b : Bool) → a ≡ isInTurn (d .roots) 0 (d .outputs) (getD (d .widths) 0 0) →
-    b ≡ all (d .contacts - 1) (turnAt (d .widths) (d .edges)) → cond (a && b) InTurn OutOfTurn ≡ numberingOf d
-numbering-by d s a b e f = ap (λ (t : Bool). cond t InTurn OutOfTurn) (ap₂ _&&_ e f ∙ numbered-is d s)
+pub numbering-by : {n m : ℕ} {ws es rs : List ℕ} (d : Diagram) → HasLevels d n ws es → HasOutputs d m rs → 1 ≤ n → (a b : Bool) →
+    a ≡ isInTurn rs 0 m (getD ws 0 0) → b ≡ all (n - 1) (turnAt ws es) → cond (a && b) InTurn OutOfTurn ≡ numberingOf d
+numbering-by d h g c a b e f =
+    let e′ : a ≡ isInTurn (d .roots) 0 (d .outputs) (getD (d .widths) 0 0) = rw (h .widths, g .outputs, g .roots) e in
+    let f′ : b ≡ all (d .contacts - 1) (turnAt (d .widths) (d .edges)) = rw (h .contacts, h .widths, h .edges) f in
+    ap (λ (t : Bool). cond t InTurn OutOfTurn) (ap₂ _&&_ e′ f′ ∙ numbered-is d (rw (h .contacts) c))

@@ -1,3 +1,4 @@
 pub mod Bytes
 pub mod Diagram
 pub mod Questions
+pub mod Lent

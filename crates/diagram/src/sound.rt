@@ -1,13 +1,14 @@
-// Questions 5 to 8, about a decoded diagram.
-use crate::Diagram;
+// Questions 5 to 8, about a diagram whose arrays are lent.
 ghost use mathlib.Core.Path.{_≡_};
 ghost use mathlib.Core.Bool.{cond};
 ghost use Prim.Native.Nat.{_+_, _*_, _≤_, _<_};
 ghost use lib.Dec.{ltb};
 ghost use lib.ListN.{length, getD};
 ghost use Rattle.fields.specs.Bounded.{all, any};
+ghost use Rattle.diagram.specs.declared.Diagram.{Diagram};
 ghost use Rattle.diagram.specs.Bytes.{isBelow, isInTurn, isUnlike, isFork};
-ghost use Rattle.diagram.specs.Questions.{Sized, rangeOf, twinsOf, numberingOf, branchingOf};
+ghost use Rattle.diagram.specs.Questions.{rangeOf, twinsOf, numberingOf, branchingOf};
+ghost use Rattle.diagram.specs.Lent.{Fit, HasLevels, HasOutputs};
 
 // Question 5's answer.
 pub enum Range {
@@ -55,19 +56,21 @@ fn below(bytes: &[u8], from: usize, count: usize, bound: usize) -> bool
 }
 
 // Question 5: does every edge and output name a node that its level has?
-pub fn ask_range(d: Diagram) -> Range
-    requires { ⌜ Sized d ⌝ }
-    ensures { λ r. ⌜ r ≡ rangeOf d ⌝ }
+pub fn ask_range<'a>(
+    n: usize,
+    widths: &'a [usize],
+    edges: &'a [u8],
+    m: usize,
+    roots: &'a [u8],
+) -> Range
+    requires { ⌜ Fit n (now widths) (now edges) × (m ≤ length (now roots)) ⌝ }
+    ensures { λ r. ⌜ ((d : Diagram) → HasLevels d n (now (widths .entry)) (now (edges .entry)) → HasOutputs d m (now (roots .entry)) → r ≡ rangeOf d) ⌝ }
 {
-    let n = d.contacts;
-    let first = width(&d.widths, n, 0);
-    if !below(&d.roots, 0, d.outputs, first) {
+    if !below(roots, 0, m, width(widths, n, 0)) {
         return Range::Outside;
     }
     for l in 0..n {
-        let nodes = d.widths[l];
-        let next = width(&d.widths, n, l + 1);
-        if !below(&d.edges, l * 16, 2 * nodes, next) {
+        if !below(edges, l * 16, 2 * widths[l], width(widths, n, l + 1)) {
             return Range::Outside;
         }
     }
@@ -105,13 +108,12 @@ fn all_unlike(edges: &[u8], from: usize, nodes: usize) -> bool
 }
 
 // Question 6: does each pair of nodes of one level differ in an edge?
-pub fn ask_twins(d: Diagram) -> Twins
-    requires { ⌜ Sized d ⌝ }
-    ensures { λ r. ⌜ r ≡ twinsOf d ⌝ }
+pub fn ask_twins<'a>(n: usize, widths: &'a [usize], edges: &'a [u8]) -> Twins
+    requires { ⌜ Fit n (now widths) (now edges) ⌝ }
+    ensures { λ r. ⌜ ((d : Diagram) → HasLevels d n (now (widths .entry)) (now (edges .entry)) → r ≡ twinsOf d) ⌝ }
 {
-    for l in 0..d.contacts {
-        let nodes = d.widths[l];
-        if !all_unlike(&d.edges, l * 16, nodes) {
+    for l in 0..n {
+        if !all_unlike(edges, l * 16, widths[l]) {
             return Twins::Present;
         }
     }
@@ -137,19 +139,22 @@ fn in_turn(bytes: &[u8], from: usize, count: usize, nodes: usize) -> bool
 }
 
 // Question 7: are nodes numbered by first mention, and all mentioned?
-pub fn ask_numbering(d: Diagram) -> Numbering
-    requires { ⌜ Sized d ⌝ }
-    ensures { λ r. ⌜ r ≡ numberingOf d ⌝ }
+pub fn ask_numbering<'a>(
+    n: usize,
+    widths: &'a [usize],
+    edges: &'a [u8],
+    m: usize,
+    roots: &'a [u8],
+) -> Numbering
+    requires { ⌜ Fit n (now widths) (now edges) × (m ≤ length (now roots)) ⌝ }
+    ensures { λ r. ⌜ ((d : Diagram) → HasLevels d n (now (widths .entry)) (now (edges .entry)) → HasOutputs d m (now (roots .entry)) → r ≡ numberingOf d) ⌝ }
 {
-    let first = d.widths[0];
-    if !in_turn(&d.roots, 0, d.outputs, first) {
+    if !in_turn(roots, 0, m, widths[0]) {
         return Numbering::OutOfTurn;
     }
-    let last = d.contacts - 1;
+    let last = n - 1;
     for l in 0..last {
-        let nodes = d.widths[l];
-        let next = d.widths[l + 1];
-        if !in_turn(&d.edges, l * 16, 2 * nodes, next) {
+        if !in_turn(edges, l * 16, 2 * widths[l], widths[l + 1]) {
             return Numbering::OutOfTurn;
         }
     }
@@ -170,13 +175,12 @@ fn forks(edges: &[u8], from: usize, nodes: usize) -> bool
 }
 
 // Question 8: has every level a node whose edges differ?
-pub fn ask_branching(d: Diagram) -> Branching
-    requires { ⌜ Sized d ⌝ }
-    ensures { λ r. ⌜ r ≡ branchingOf d ⌝ }
+pub fn ask_branching<'a>(n: usize, widths: &'a [usize], edges: &'a [u8]) -> Branching
+    requires { ⌜ Fit n (now widths) (now edges) ⌝ }
+    ensures { λ r. ⌜ ((d : Diagram) → HasLevels d n (now (widths .entry)) (now (edges .entry)) → r ≡ branchingOf d) ⌝ }
 {
-    for l in 0..d.contacts {
-        let nodes = d.widths[l];
-        if !forks(&d.edges, l * 16, nodes) {
+    for l in 0..n {
+        if !forks(edges, l * 16, widths[l]) {
             return Branching::Missing;
         }
     }

@@ -11,7 +11,9 @@ use diagram::Twins;
 use fields::Framing;
 use files::Contacts;
 ghost use mathlib.Core.Path.{_≡_};
-ghost use Rattle.diagram.specs.Questions.{Sized};
+ghost use Prim.Native.Nat.{_≤_};
+ghost use lib.ListN.{length};
+ghost use Rattle.diagram.specs.Lent.{Fit, HasLevels, HasOutputs};
 ghost use Rattle.table.specs.Table.{fieldsRefusal, diagramRefusal, refusedTable, tableOf, readingOf};
 
 // A table's diagram, or the number of the first question that it fails and nothing else.
@@ -47,20 +49,26 @@ fn asked_of_fields(file: &[u8]) -> u32
 }
 
 // Questions 5 to 8.
-fn asked_of_diagram(d: Diagram) -> u32
-    requires { ⌜ Sized d ⌝ }
-    ensures { λ r. ⌜ r ≡ diagramRefusal d ⌝ }
+fn asked_of_diagram<'a>(
+    n: usize,
+    widths: &'a [usize],
+    edges: &'a [u8],
+    m: usize,
+    roots: &'a [u8],
+) -> u32
+    requires { ⌜ Fit n (now widths) (now edges) × (m ≤ length (now roots)) ⌝ }
+    ensures { λ r. ⌜ ((d : Diagram) → HasLevels d n (now (widths .entry)) (now (edges .entry)) → HasOutputs d m (now (roots .entry)) → r ≡ diagramRefusal d) ⌝ }
 {
-    let Range::Within = diagram::ask_range(d) else {
+    let Range::Within = diagram::ask_range(n, widths, edges, m, roots) else {
         return 5;
     };
-    let Twins::Absent = diagram::ask_twins(d) else {
+    let Twins::Absent = diagram::ask_twins(n, widths, edges) else {
         return 6;
     };
-    let Numbering::InTurn = diagram::ask_numbering(d) else {
+    let Numbering::InTurn = diagram::ask_numbering(n, widths, edges, m, roots) else {
         return 7;
     };
-    let Branching::Throughout = diagram::ask_branching(d) else {
+    let Branching::Throughout = diagram::ask_branching(n, widths, edges) else {
         return 8;
     };
     0
@@ -90,14 +98,16 @@ pub fn read(file: &[u8]) -> Table
     if first != 0 {
         return refused(first);
     }
-    let diagram = decode::decode(file);
-    let second = asked_of_diagram(diagram);
+    let d = decode::decode(file);
+    let n = d.contacts;
+    let m = d.outputs;
+    let second = asked_of_diagram(n, &d.widths, &d.edges, m, &d.roots);
     if second != 0 {
         return refused(second);
     }
     Table {
         refusal: 0,
-        diagram: diagram,
+        diagram: d,
     }
 }
 
@@ -113,8 +123,9 @@ pub fn read_off(file: &[u8], a: u32) -> Reading
             word: 0,
         };
     }
-    let d = table.diagram;
-    if 1u32 << d.contacts <= a {
+    let n = table.diagram.contacts;
+    let m = table.diagram.outputs;
+    if 1u32 << n <= a {
         return Reading {
             refusal: 10,
             word: 0,
@@ -122,6 +133,6 @@ pub fn read_off(file: &[u8], a: u32) -> Reading
     }
     Reading {
         refusal: 0,
-        word: diagram::word(d, a),
+        word: diagram::word(n, &table.diagram.edges, m, &table.diagram.roots, a),
     }
 }

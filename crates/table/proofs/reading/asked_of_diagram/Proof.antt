@@ -11,7 +11,7 @@ use Rattle.table.proofs.reading.asked_of_diagram.Statement.{statement}
 use Rattle.table.proofs.reading.asked_of_diagram.Tie as tie
 
 ask-range-requires : tie.Need-ask-range-requires
-ask-range-requires c κs = search needs
+ask-range-requires c κs = c .before .before .before .pre
 
 enum-told : tie.Need-enum-told
 enum-told c = search needs
@@ -21,12 +21,12 @@ enum-told-2 c = search needs
 
 returns : tie.Need-returns
 unfolding firstNo
-returns c =
-    let range = sym (c .before .before .ask-range .ensures) ∙ c .enum-told2 .given .1 in
-    diagram-by _ Outside _ _ _ range refl refl refl
+returns c d h g =
+    let range = sym (c .before .before .ask-range .ensures d h g) ∙ c .enum-told2 .given .1 in
+    diagram-by d Outside _ _ _ range refl refl refl
 
 ask-twins-requires : tie.Need-ask-twins-requires
-ask-twins-requires c κs = search needs
+ask-twins-requires c κs = c .before .before .before .before .before .before .pre .0
 
 enum-told-3 : tie.Need-enum-told-3
 enum-told-3 c = search needs
@@ -36,13 +36,13 @@ enum-told-4 c = search needs
 
 returns-2 : tie.Need-returns-2
 unfolding firstNo
-returns-2 c =
-    let range = sym (c .before .before .before .before .before .ask-range .ensures) ∙ c .before .before .before .enum-told .given .1 in
-    let twins = sym (c .before .before .ask-twins .ensures) ∙ c .enum-told4 .given .1 in
-    diagram-by _ Within Present _ _ range twins refl refl
+returns-2 c d h g =
+    let range = sym (c .before .before .before .before .before .ask-range .ensures d h g) ∙ c .before .before .before .enum-told .given .1 in
+    let twins = sym (c .before .before .ask-twins .ensures d h) ∙ c .enum-told4 .given .1 in
+    diagram-by d Within Present _ _ range twins refl refl
 
 ask-numbering-requires : tie.Need-ask-numbering-requires
-ask-numbering-requires c κs = search needs
+ask-numbering-requires c κs = c .before .before .before .before .before .before .before .before .before .pre
 
 enum-told-5 : tie.Need-enum-told-5
 enum-told-5 c = search needs
@@ -52,14 +52,14 @@ enum-told-6 c = search needs
 
 returns-3 : tie.Need-returns-3
 unfolding firstNo
-returns-3 c =
-    let range = sym (c .before .before .before .before .before .before .before .before .ask-range .ensures) ∙ c .before .before .before .before .before .before .enum-told .given .1 in
-    let twins = sym (c .before .before .before .before .before .ask-twins .ensures) ∙ c .before .before .before .enum-told3 .given .1 in
-    let numbering = sym (c .before .before .ask-numbering .ensures) ∙ c .enum-told6 .given .1 in
-    diagram-by _ Within Absent OutOfTurn _ range twins numbering refl
+returns-3 c d h g =
+    let range = sym (c .before .before .before .before .before .before .before .before .ask-range .ensures d h g) ∙ c .before .before .before .before .before .before .enum-told .given .1 in
+    let twins = sym (c .before .before .before .before .before .ask-twins .ensures d h) ∙ c .before .before .before .enum-told3 .given .1 in
+    let numbering = sym (c .before .before .ask-numbering .ensures d h g) ∙ c .enum-told6 .given .1 in
+    diagram-by d Within Absent OutOfTurn _ range twins numbering refl
 
 ask-branching-requires : tie.Need-ask-branching-requires
-ask-branching-requires c κs = search needs
+ask-branching-requires c κs = c .before .before .before .before .before .before .before .before .before .before .before .before .pre .0
 
 enum-told-7 : tie.Need-enum-told-7
 enum-told-7 c = search needs
@@ -69,21 +69,21 @@ enum-told-8 c = search needs
 
 returns-4 : tie.Need-returns-4
 unfolding firstNo
-returns-4 c =
-    let range = sym (c .before .before .before .before .before .before .before .before .before .before .before .ask-range .ensures) ∙ c .before .before .before .before .before .before .before .before .before .enum-told .given .1 in
-    let twins = sym (c .before .before .before .before .before .before .before .before .ask-twins .ensures) ∙ c .before .before .before .before .before .before .enum-told3 .given .1 in
-    let numbering = sym (c .before .before .before .before .before .ask-numbering .ensures) ∙ c .before .before .before .enum-told5 .given .1 in
-    let branching = sym (c .before .before .ask-branching .ensures) ∙ c .enum-told8 .given .1 in
-    diagram-by _ Within Absent InTurn Missing range twins numbering branching
+returns-4 c d h g =
+    let range = sym (c .before .before .before .before .before .before .before .before .before .before .before .ask-range .ensures d h g) ∙ c .before .before .before .before .before .before .before .before .before .enum-told .given .1 in
+    let twins = sym (c .before .before .before .before .before .before .before .before .ask-twins .ensures d h) ∙ c .before .before .before .before .before .before .enum-told3 .given .1 in
+    let numbering = sym (c .before .before .before .before .before .ask-numbering .ensures d h g) ∙ c .before .before .before .enum-told5 .given .1 in
+    let branching = sym (c .before .before .ask-branching .ensures d h) ∙ c .enum-told8 .given .1 in
+    diagram-by d Within Absent InTurn Missing range twins numbering branching
 
 returns-5 : tie.Need-returns-5
 unfolding firstNo
-returns-5 c =
-    let range = sym (c .before .before .before .before .before .before .before .before .before .before .before .ask-range .ensures) ∙ c .before .before .before .before .before .before .before .before .before .enum-told .given .1 in
-    let twins = sym (c .before .before .before .before .before .before .before .before .ask-twins .ensures) ∙ c .before .before .before .before .before .before .enum-told3 .given .1 in
-    let numbering = sym (c .before .before .before .before .before .ask-numbering .ensures) ∙ c .before .before .before .enum-told5 .given .1 in
-    let branching = sym (c .before .before .ask-branching .ensures) ∙ c .enum-told7 .given .1 in
-    diagram-by _ Within Absent InTurn Throughout range twins numbering branching
+returns-5 c d h g =
+    let range = sym (c .before .before .before .before .before .before .before .before .before .before .before .ask-range .ensures d h g) ∙ c .before .before .before .before .before .before .before .before .before .enum-told .given .1 in
+    let twins = sym (c .before .before .before .before .before .before .before .before .ask-twins .ensures d h) ∙ c .before .before .before .before .before .before .enum-told3 .given .1 in
+    let numbering = sym (c .before .before .before .before .before .ask-numbering .ensures d h g) ∙ c .before .before .before .enum-told5 .given .1 in
+    let branching = sym (c .before .before .ask-branching .ensures d h) ∙ c .enum-told7 .given .1 in
+    diagram-by d Within Absent InTurn Throughout range twins numbering branching
 
 pub asked-of-diagram-spec : {M : Type 1} → statement M
 asked-of-diagram-spec =

@@ -3,7 +3,7 @@ use borrow.Author.Needs.{needs}
 use native.Mathlib.Omega.{arith}
 use native.Mathlib.Nat.{one-mul}
 use Prim.Native.Nat.{ℕ, _^_, _%_, _≤_, _*_}
-use mathlib.Core.Path.{_≡_, sym, ap, _∙_}
+use mathlib.Core.Path.{_≡_, refl, sym, ap, _∙_}
 use mathlib.Core.List.{List}
 use lib.Pow.{shl-exact}
 use Rattle.table.specs.declared.reading.Table.{Table}
@@ -29,36 +29,38 @@ returns : tie.Need-returns
 unfolding readingOf
 returns c =
     let t = c .before .read in
-    reading-refused (t .result .refusal) (t .result .diagram) (c .before .before .before .args .a) (c .if1 .taken)
-    ∙ ap (λ (t : Table). readingOf t (c .before .before .before .args .a)) (t .ensures)
+    let a = c .before .before .before .args .a in
+    reading-refused (t .result .refusal) (t .result .diagram) a (c .if1 .taken) ∙ ap (λ (t : Table). readingOf t a) (t .ensures)
 
 cast-if2 : tie.Need-cast-if2
-cast-if2 c = omega (arith, kept _ (c .before .before .before .read .ensures) (c .before .before .if1 .left) .contacts)
+cast-if2 c = omega (arith, kept _ (c .before .read .ensures) (c .if1 .left) .contacts)
 
 shl-if2 : tie.Need-shl-if2
-shl-if2 c = omega (arith, kept _ (c .before .before .before .read .ensures) (c .before .before .if1 .left) .contacts)
+shl-if2 c = omega (arith, kept _ (c .before .read .ensures) (c .if1 .left) .contacts)
 
 returns-2 : tie.Need-returns-2
 unfolding readingOf
 returns-2 c =
-    let t = c .before .before .before .before .read in
-    let a = c .before .before .before .before .before .before .args .a in
-    let none = c .before .before .before .if1 .left in
+    let t = c .before .before .read in
+    let a = c .before .before .before .before .args .a in
+    let none = c .before .if1 .left in
     let e = one-shifted (t .result .diagram .contacts) (kept _ (t .ensures) none .contacts .1) in
     reading-outside (t .result .refusal) (t .result .diagram) a none (rw e at (c .if2 .taken)) ∙ ap (λ (t : Table). readingOf t a) (t .ensures)
 
 word-requires : tie.Need-word-requires
-word-requires c κs = kept _ (c .before .before .before .before .read .ensures) (c .before .before .before .if1 .left)
+word-requires c κs =
+    let limits = kept _ (c .before .before .before .before .before .before .before .read .ensures) (c .before .before .before .before .before .before .if1 .left) in
+    (limits .contacts .1, limits .outputs .1, omega (arith, limits .outputs, c .word-arg4 .given .0))
 
 returns-3 : tie.Need-returns-3
 unfolding readingOf
 returns-3 c =
-    let t = c .before .before .before .before .before .read in
-    let a = c .before .before .before .before .before .before .before .args .a in
-    let none = c .before .before .before .before .if1 .left in
+    let t = c .before .before .before .before .before .before .before .before .read in
+    let a = c .before .before .before .before .before .before .before .before .before .before .args .a in
+    let none = c .before .before .before .before .before .before .before .if1 .left in
     let e = one-shifted (t .result .diagram .contacts) (kept _ (t .ensures) none .contacts .1) in
-    reading-inside (t .result .refusal) (t .result .diagram) a none (rw e at (c .before .if2 .left)) (c .word .ensures)
-    ∙ ap (λ (t : Table). readingOf t a) (t .ensures)
+    let w = c .word .ensures (t .result .diagram) refl refl (record { outputs = refl; roots = refl }) in
+    reading-inside (t .result .refusal) (t .result .diagram) a none (rw e at (c .before .before .before .before .before .before .if2 .left)) w ∙ ap (λ (t : Table). readingOf t a) (t .ensures)
 
 pub read-off-spec : {M : Type 1} → statement M
 read-off-spec =
