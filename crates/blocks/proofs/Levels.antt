@@ -11,7 +11,7 @@ use Rattle.rules.specs.declared.Entry.{Entry}
 use Rattle.rules.specs.declared.Entry.the-variants.{Never}
 use Rattle.rules.specs.Make.{Make, return, _>>=_, sequence}
 use Rattle.rules.specs.Blocks.{Matrix, entryAt, levelEntry, levelMatrix}
-use Rattle.gates.specs.Written.{railOf}
+use Rattle.blocks.specs.Rails.{railOf}
 use Rattle.gates.proofs.Binding.{return-bind, sequence-same}
 use Rattle.products.proofs.Cells.{listed-from}
 

@@ -1,5 +1,5 @@
 -- The block of several levels as it is written and stored.
-use Prim.Native.Nat.{ℕ, zero, suc, _+_, _*_, _-_, _/_, _≤_, _<_}
+use Prim.Native.Nat.{ℕ, zero, suc, _+_, _-_, _/_, _≤_, _<_}
 use native.Mathlib.Omega.{arith}
 use mathlib.Core.Path.{_≡_, refl, sym, ap₂}
 use mathlib.Core.Bool.{Bool, true, false, _&&_, _||_}
@@ -12,7 +12,8 @@ use Rattle.rules.specs.declared.Entry.{Entry}
 use Rattle.rules.specs.declared.Entry.the-variants.{Always}
 use Rattle.rules.specs.Make.{Make, return, _>>=_}
 use Rattle.rules.specs.Blocks.{Matrix, entryAt, isAlways, term, linesIn, joined, cut, productEntry, product, levelEntry, block}
-use Rattle.gates.specs.Written.{Written, RoomFor, matrixOf, Stored}
+use Rattle.gates.specs.Written.{Written, RoomFor}
+use Rattle.products.specs.Cells.{matrixOf, Stored}
 use Rattle.gates.proofs.Binding.{sequence-same}
 use Rattle.products.proofs.Cells.{stored-same}
 use Rattle.rules.proofs.Cuts.{size-cut}

@@ -8,7 +8,9 @@ ghost use Rattle.diagram.specs.Questions.{Sized};
 ghost use Rattle.diagram.specs.Diagram as diagrams;
 ghost use Rattle.rules.specs.Blocks.{cut, entryAt, levelEntry};
 ghost use Rattle.rules.specs.Blocks as blocks;
-ghost use Rattle.gates.specs.Written.{Written, RoomFor, railOf, Stored, RowStored};
+ghost use Rattle.gates.specs.Written.{Written, RoomFor};
+ghost use Rattle.blocks.specs.Rails.{railOf};
+ghost use Rattle.products.specs.Cells.{Stored, RowStored};
 
 // The number of nodes of a level; level n has two.
 fn width(d: Diagram, l: usize) -> usize

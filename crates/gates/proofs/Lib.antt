@@ -1,5 +1,5 @@
 pub mod Binding
 pub mod Writing
 pub mod Rooms
-pub mod WrittenEntries
+pub mod WrittenLines
 pub mod WrittenTrees

@@ -4,7 +4,6 @@ use mathlib.Core.Path.{_≡_}
 use mathlib.Core.List.{List, [], _∷_}
 use lib.ListN.{replicate}
 use Rattle.simulation.specs.Service.{runOf}
-use Rattle.synthesis.specs.declared.service.Checked.{Checked}
 use Rattle.synthesis.specs.Service.{checkedOf, buildingOf}
 use Rattle.probe.specs.declared.service.Way.{Way}
 use Rattle.probe.specs.declared.service.Way.the-variants.{BothLow, BothHigh}

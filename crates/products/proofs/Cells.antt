@@ -13,7 +13,7 @@ use Rattle.rules.specs.declared.Entry.{Entry}
 use Rattle.rules.specs.declared.Entry.the-variants.{Never, Line}
 use Rattle.rules.specs.Blocks.{entryAt}
 use Rattle.rules.specs.Board.{lineOf}
-use Rattle.gates.specs.Written.{entryOf, matrixOf, RowStored, Stored}
+use Rattle.products.specs.Cells.{entryOf, matrixOf, RowStored, Stored}
 
 pub line-entry : (x : ℕ) → (x ≡ 0 → ⊥) → (x ≡ 1 → ⊥) → Line x ≡ entryOf x
 line-entry zero h g = absurd (h refl)

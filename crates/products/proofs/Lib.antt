@@ -3,3 +3,4 @@ pub mod Listing
 pub mod Standing
 pub mod WrittenRows
 pub mod WrittenTerms
+pub mod WrittenEntries

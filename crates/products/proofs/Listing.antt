@@ -11,7 +11,8 @@ use Rattle.fields.specs.Bounded.{any}
 use Rattle.fields.proofs.Bounded.{any-at}
 use Rattle.rules.specs.declared.Entry.the-variants.{Never}
 use Rattle.rules.specs.Blocks.{Matrix, entryAt, isAlways, term}
-use Rattle.gates.specs.Written.{entryOf, matrixOf, anyAlways, Listed, ended, dropped, taken}
+use Rattle.products.specs.Cells.{entryOf, matrixOf}
+use Rattle.products.specs.Terms.{anyAlways, Listed, ended, dropped, taken}
 use Rattle.products.proofs.Cells.{cell-at}
 use Rattle.gates.proofs.Writing.{written-return}
 use Rattle.products.proofs.WrittenTerms.{Turned, turned-more}

@@ -1,22 +1,19 @@
--- Entries of levels, and of products of stored matrices, are never, always or a line from 2 up, so that their lines stand for them.
-use Prim.Native.Nat.{ℕ, zero, suc, _+_, _*_, _≤_, _<_}
+-- Entries of products of stored matrices are never, always or a line from 2 up, so that their lines stand for them.
+use Prim.Native.Nat.{ℕ, zero, suc, _+_, _≤_, _<_}
 use native.Mathlib.Omega.{arith}
 use mathlib.Core.Path.{_≡_, refl, sym}
-use mathlib.Core.Bool.{Bool, true, false, cond}
 use mathlib.Core.List.{List, _∷_}
-use lib.Dec.{eqb}
 use lib.ListN.{length, getD}
 use Rattle.rules.specs.declared.Entry.{Entry}
-use Rattle.rules.specs.declared.Entry.the-variants.{Never, Always, Line}
 use Rattle.rules.specs.Make.{Make, return, _>>=_, gate, sequence}
 use Rattle.rules.specs.Blocks.{entryAt, Cut, one, two, cut, term, orTree, joined, productEntry}
 use Rattle.rules.specs.Board.{lineOf}
-use Rattle.gates.specs.Written.{entryOf, matrixOf, railOf}
+use Rattle.products.specs.Cells.{entryOf, matrixOf}
 use Rattle.products.proofs.Cells.{line-entry, cell-at}
 use Rattle.rules.proofs.Every.{Every, none, more}
 use Rattle.rules.proofs.Entries.{OfLine, never, always, line, of-lines, entry-either}
 
-abbrev Real : Entry → Type 0
+abbrev pub Real : Entry → Type 0
 Real = OfLine (λ x. 2 ≤ x)
 
 -- From line 2 up, m makes what has Q.
@@ -64,7 +61,7 @@ joined-real none = makes-return never
 joined-real (more {x = x} {xs = ls} h hs) =
     makes-bind (tree-real (cut (length (x ∷ ls))) x ls h) (λ y g. makes-return (line g))
 
-real-stands : {e : Entry} → Real e → entryOf (lineOf e) ≡ e
+pub real-stands : {e : Entry} → Real e → entryOf (lineOf e) ≡ e
 real-stands never = refl
 real-stands always = refl
 real-stands (line {x = x} h) = sym (line-entry x (λ e. omega arith) (λ e. omega arith))
@@ -88,15 +85,3 @@ module _ (middle : ℕ) (left right : List ℕ) (u v : ℕ) (few : middle ≤ 8)
   pub entry-stands : (next : ℕ) {e : Entry} → 2 ≤ next → e ≡ productEntry middle (matrixOf left) (matrixOf right) u v next .1 →
       entryOf (lineOf e) ≡ e
   entry-stands next h p = rw p (real-stands (entry-real .at next h))
-
-rail-real : (a b : Bool) (x y : ℕ) → 2 ≤ x → 2 ≤ y → Real (cond a (cond b Always (Line x)) (cond b (Line y) Never))
-rail-real true true x y hx hy = always
-rail-real true false x y hx hy = line hx
-rail-real false true x y hx hy = line hy
-rail-real false false x y hx hy = never
-
-pub rail-stands : (zero-edge one-edge l v : ℕ) →
-    entryOf (lineOf (railOf zero-edge one-edge l v)) ≡ railOf zero-edge one-edge l v
-rail-stands zero-edge one-edge l v =
-    real-stands
-    (rail-real (eqb one-edge v) (eqb zero-edge v) (2 + 2 * l) (3 + 2 * l) (omega arith) (omega arith))

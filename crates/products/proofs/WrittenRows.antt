@@ -1,13 +1,14 @@
 -- The rows of a product, and the product, as they are written and stored.
 use Prim.Native.Nat.{ℕ, _+_, _*_, _≤_, _<_}
-use native.Mathlib.Omega.{arith}
 use mathlib.Core.Path.{_≡_, sym, ap, _∙_}
 use mathlib.Core.List.{List, []}
 use lib.ListN.{length, getD, set}
 use Rattle.rules.specs.declared.Entry.{Entry}
 use Rattle.rules.specs.declared.Entry.the-variants.{Never}
 use Rattle.rules.specs.Blocks.{Matrix, entryAt, productEntry, product}
-use Rattle.gates.specs.Written.{Written, RoomFor, rowOf, entryOf, RowStored, Stored}
+use Rattle.gates.specs.Written.{Written, RoomFor}
+use Rattle.products.specs.Terms.{rowOf}
+use Rattle.products.specs.Cells.{entryOf, RowStored, Stored}
 use Rattle.gates.proofs.Binding.{sequence-length}
 use Rattle.products.proofs.Cells.{row-none, row-more, row-same, rows-none, rows-more, stored-same, before-last, at-last}
 use Rattle.gates.proofs.Rooms.{room-turn}

@@ -10,7 +10,9 @@ ghost use lib.ListN.{length, getD, take};
 ghost use lib.Seq.{sets};
 ghost use Rattle.fields.specs.Bounded.{any};
 ghost use Rattle.rules.specs.Blocks.{isAlways, entryAt, linesIn, productEntry, product};
-ghost use Rattle.gates.specs.Written.{Written, RoomFor, matrixOf, anyAlways, termsOf, rowOf, Listed, Collected, Stored, RowStored};
+ghost use Rattle.gates.specs.Written.{Written, RoomFor};
+ghost use Rattle.products.specs.Cells.{matrixOf, Stored, RowStored};
+ghost use Rattle.products.specs.Terms.{anyAlways, termsOf, rowOf, Listed, Collected};
 
 // How many lines are among the terms, and the number of gates made so far.
 struct Found {

@@ -1,8 +1,7 @@
 -- The selector's first product, by computation: levels 0 and 1, gates 8 to 12.
 use mathlib.Core.Path.{_≡_, refl}
-use mathlib.Core.List.{List, [], _∷_}
+use mathlib.Core.List.{[], _∷_}
 use Rattle.fields.specs.Bounded.{any}
-use Rattle.netlist.specs.declared.Gate.{Gate}
 use Rattle.rules.specs.declared.Entry.{Entry}
 use Rattle.rules.specs.declared.Entry.the-variants.{Never, Line}
 use Rattle.rules.specs.Make.{_>>=_, sequence}

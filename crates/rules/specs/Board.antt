@@ -1,5 +1,5 @@
 -- The board of a diagram: its netlist, and the netlist's depth.
-use Prim.Native.Nat.{ℕ, zero, suc, _+_, _*_, max}
+use Prim.Native.Nat.{ℕ, suc, _+_, _*_, max}
 use mathlib.Core.List.{List, [], _∷_, _++_, map}
 use lib.ListN.{replicate}
 use Rattle.diagram.specs.declared.Diagram.{Diagram}
@@ -8,7 +8,7 @@ use Rattle.table.specs.Table.{diagramIn}
 use Rattle.netlist.specs.declared.Gate.{Gate}
 use Rattle.netlist.specs.declared.Pair.{Pair}
 use Rattle.netlist.specs.Netlist.{Netlist, gateLine, listed}
-use Rattle.simulation.specs.Run.{Rule, Driver, rail, gate, workOut}
+use Rattle.simulation.specs.Run.{rail, gate, workOut}
 use Rattle.rules.specs.declared.Entry.{Entry}
 use Rattle.rules.specs.declared.Entry.the-variants.{Never, Always, Line}
 use Rattle.rules.specs.Blocks.{Matrix, entryAt, cut, block}

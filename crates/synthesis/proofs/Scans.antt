@@ -14,7 +14,7 @@ use Rattle.simulation.specs.Run.{Driver, Rule, rail, gate, drive, workOut}
 use Rattle.netlist.proofs.Lists.{listed-more}
 use Rattle.simulation.proofs.Runs.{run-append, run-more}
 use Rattle.rules.specs.Board.{largest, depthsOf, depthOf}
-use Rattle.gates.specs.Written.{depthsFrom, Sourced}
+use Rattle.synthesis.specs.Depths.{depthsFrom, Sourced}
 
 largest-more : (xs : List ℕ) (y : ℕ) → largest (xs ++ (y ∷ [])) ≡ max (largest xs) y
 largest-more [] y = omega arith

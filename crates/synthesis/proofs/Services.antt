@@ -23,7 +23,7 @@ use Rattle.synthesis.specs.declared.service.Checked.{Checked}
 use Rattle.rules.specs.Board.{boardOf, depthsOf, depthOf, tableBoard}
 use Rattle.synthesis.specs.Service.{checkedOr, checkedOf, fileWith, buildRefusal, writingOf, buildingOf}
 use Rattle.rules.proofs.Bounds.{sized-narrow, gates-most}
-use Rattle.gates.specs.Written.{Sourced}
+use Rattle.synthesis.specs.Depths.{Sourced}
 use Rattle.products.proofs.Cells.{listed-from}
 use Rattle.rules.proofs.Depths.{depth-most}
 use Rattle.synthesis.proofs.Files.{taken-back, gates-read, file-of}

@@ -14,7 +14,8 @@ use Rattle.diagram.proofs.Paths.{width-last, root-in}
 use Rattle.netlist.specs.Netlist.{gateLine, gateBytes, listed}
 use Rattle.rules.specs.Blocks.{Matrix, entryAt, cut, block}
 use Rattle.rules.specs.Board.{lineOf, wholeBlock, pairOf, boardOf}
-use Rattle.gates.specs.Written.{Written, RoomFor, matrixOf, Stored}
+use Rattle.gates.specs.Written.{Written, RoomFor}
+use Rattle.products.specs.Cells.{matrixOf, Stored}
 use Rattle.rules.proofs.Bounds.{sized-narrow, gates-most}
 use Rattle.synthesis.proofs.WrittenPairs.{listed-same}
 

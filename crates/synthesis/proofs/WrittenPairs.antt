@@ -18,7 +18,7 @@ use Rattle.netlist.proofs.Files.{length-pair-bytes}
 use Rattle.netlist.proofs.Lists.{length-listed, listed-more}
 use Rattle.rules.specs.Blocks.{entryAt}
 use Rattle.rules.specs.Board.{lineOf, pairOf}
-use Rattle.gates.specs.Written.{matrixOf}
+use Rattle.products.specs.Cells.{matrixOf}
 use Rattle.products.proofs.Cells.{entry-line, cell-at}
 use Rattle.gates.proofs.Writing.{flat-append}
 

@@ -9,9 +9,8 @@ ghost use lib.Seq.{sets};
 ghost use Rattle.diagram.specs.Diagram.{width};
 ghost use Rattle.diagram.specs.Questions.{Sized, inRange};
 ghost use Rattle.netlist.specs.Netlist.{gateBytes, pairBytes, listed};
-ghost use Rattle.rules.specs.Blocks.{Matrix};
 ghost use Rattle.rules.specs.Board.{pairOf, boardOf};
-ghost use Rattle.gates.specs.Written.{matrixOf};
+ghost use Rattle.products.specs.Cells.{matrixOf};
 
 // Writes each output's true line and false line: columns 1 and 0 of its node's row.
 fn put_pairs(d: Diagram, cells: &[u16], pairs: &mut [u8])

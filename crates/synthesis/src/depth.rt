@@ -5,7 +5,7 @@ ghost use Prim.Native.Nat.{_+_, _*_, _≤_, max};
 ghost use lib.ListN.{length, take, replicate};
 ghost use Rattle.netlist.specs.Netlist.{gateAt, listed};
 ghost use Rattle.rules.specs.Board.{largest, depthOf};
-ghost use Rattle.gates.specs.Written.{depthsFrom, Sourced};
+ghost use Rattle.synthesis.specs.Depths.{depthsFrom, Sourced};
 
 fn larger(a: u16, b: u16) -> u16
     ensures { λ r. ⌜ r ≡ max a b ⌝ }

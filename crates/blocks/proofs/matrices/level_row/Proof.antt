@@ -5,9 +5,10 @@ use Prim.Native.Nat.{_≤_, _-_}
 use mathlib.Core.Path.{_≡_, refl, ap, _∙_}
 use lib.ListN.{length, length-set}
 use Rattle.rules.specs.Board.{lineOf}
-use Rattle.gates.specs.Written.{entryOf, railOf, RowStored}
+use Rattle.products.specs.Cells.{entryOf, RowStored}
+use Rattle.blocks.specs.Rails.{railOf}
 use Rattle.products.proofs.Cells.{row-none, row-more}
-use Rattle.products.proofs.Standing.{rail-stands}
+use Rattle.blocks.proofs.Rails.{rail-stands}
 use Rattle.blocks.proofs.matrices.level_row.Statement.{statement}
 use Rattle.blocks.proofs.matrices.level_row.Tie as tie
 

@@ -1,7 +1,7 @@
 -- `join::join_lines` meets its contract: no line, one line, or the OR tree of the lines.
 use borrow.Author.Needs.{needs}
 use native.Mathlib.Omega.{arith}
-use Rattle.gates.proofs.WrittenEntries.{lines-none, lines-one, lines-tree, lines-room}
+use Rattle.gates.proofs.WrittenLines.{lines-none, lines-one, lines-tree, lines-room}
 use Rattle.gates.proofs.join.join_lines.Statement.{statement}
 use Rattle.gates.proofs.join.join_lines.Tie as tie
 

@@ -2,7 +2,7 @@
 use borrow.Author.Needs.{needs}
 use native.Mathlib.Omega.{arith}
 use mathlib.Core.Path.{sym, _∙_}
-use Rattle.gates.proofs.WrittenEntries.{entry-sure, entry-terms, entry-joins, entry-rest}
+use Rattle.products.proofs.WrittenEntries.{entry-sure, entry-terms, entry-joins, entry-rest}
 use Rattle.products.proofs.product.entry.Statement.{statement}
 use Rattle.products.proofs.product.entry.Tie as tie
 

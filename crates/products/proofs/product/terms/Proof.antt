@@ -5,7 +5,7 @@ use Prim.Native.Nat.{_≤_, _-_}
 use native.Mathlib.Numerals.{add-one}
 use mathlib.Core.Path.{_≡_, refl}
 use lib.ListN.{length, drop}
-use Rattle.gates.specs.Written.{matrixOf}
+use Rattle.products.specs.Cells.{matrixOf}
 use Rattle.products.proofs.WrittenTerms.{turned-none, turned-more, turned-room, turned-all}
 use Rattle.products.proofs.Listing.{Passed, passed-next, passed-last}
 use Rattle.products.proofs.product.terms.Statement.{statement}

@@ -1,7 +1,7 @@
 -- `board::most_gates` meets its contract. The loop's invariant: the width is at least those of the levels passed, and at most 8.
 use borrow.Author.Needs.{needs}
 use native.Mathlib.Omega.{arith}
-use Prim.Native.Nat.{_≤_, _<_, _-_}
+use Prim.Native.Nat.{_≤_, _-_}
 use mathlib.Core.Path.{_≡_}
 use mathlib.Core.Logic.{⊎-elim}
 use lib.ListN.{getD}

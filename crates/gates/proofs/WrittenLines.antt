@@ -1,21 +1,17 @@
--- An entry of a product as it is written: always, or the OR tree of its terms' lines.
+-- The lines of an entry joined, as they are written: none, a single one, or their OR tree.
 use Prim.Native.Nat.{ℕ, _+_, _-_, _≤_}
 use native.Mathlib.Omega.{arith}
 use mathlib.Core.Path.{_≡_}
-use mathlib.Core.Bool.{true, false}
 use mathlib.Core.List.{List, [], _∷_}
 use lib.ListN.{length, getD, take}
 use lib.Seq.{length-take-le}
-use Rattle.fields.specs.Bounded.{any}
-use Rattle.rules.specs.declared.Entry.{Entry}
-use Rattle.rules.specs.declared.Entry.the-variants.{Never, Always, Line}
+use Rattle.rules.specs.declared.Entry.the-variants.{Never, Line}
 use Rattle.rules.specs.Make.{return}
-use Rattle.rules.specs.Blocks.{Matrix, linesIn, cut, orTree, joined, productEntry}
-use Rattle.gates.specs.Written.{Written, Room, RoomFor, termsOf, Collected}
+use Rattle.rules.specs.Blocks.{cut, orTree, joined}
+use Rattle.gates.specs.Written.{Written, Room, RoomFor}
 use Rattle.rules.proofs.Counts.{or-count}
 use Rattle.rules.proofs.Cuts.{size-cut}
-use Rattle.rules.proofs.Products.{sure, entry-always, entry-joined}
-use Rattle.gates.proofs.Rooms.{room-first, room-then}
+use Rattle.gates.proofs.Rooms.{room-first}
 use Rattle.gates.proofs.Writing.{written-return, written-bind}
 use Rattle.gates.proofs.WrittenTrees.{tree-one}
 
@@ -36,7 +32,6 @@ joined-room (x ∷ ls) count {first} {made} e some room =
     let made = or-count (cut (length (x ∷ ls))) (x ∷ ls) .from (first + made) in
     record { lines = omega (arith, tree .lines); bytes = omega (arith, tree .bytes) }
 
--- Lines joined: none, a single one, or their OR tree.
 module _ (lines : List ℕ) (count : ℕ) {first made : ℕ} {start : List ℕ} where
   pub lines-none : count ≡ 0 → Written (joined (take count lines)) first made start start Never made
   unfolding joined
@@ -54,29 +49,3 @@ module _ (lines : List ℕ) (count : ℕ) {first made : ℕ} {start : List ℕ} 
   lines-one one few =
       let same : made + count - 1 ≡ made = omega arith in
       rw same at (lines-tree (omega arith) (omega arith) (tree-one lines first made 0 count one))
-
-module _ (middle : ℕ) (left right : Matrix) (u v : ℕ) {first made : ℕ} {start : List ℕ} where
-  pub entry-sure : any middle (sure left right u v) ≡ true →
-      Written (productEntry middle left right u v) first made start start Always made
-  entry-sure e = rw (entry-always middle left right u v e) (written-return Always)
-
-  module _ {total count : ℕ} {out lines : List ℕ} {ts : List Entry} (e : any middle (sure left right u v) ≡ false)
-      (w : Written (termsOf middle left right u v) first made start out ts total) (collected : Collected ts lines count) where
-    pub entry-joins : {y : Entry} {next : ℕ} {after : List ℕ} → Written (joined (take count lines)) first total out after y next →
-        Written (productEntry middle left right u v) first made start after y next
-    unfolding termsOf
-    entry-joins s =
-        rw (entry-joined middle left right u v e)
-        (written-bind (λ ts. joined (linesIn ts)) w (rw (collected .found) s))
-
-    pub entry-rest : RoomFor (productEntry middle left right u v) first made start → length out ≡ length start →
-        RoomFor (joined (take count lines)) first total out
-    unfolding termsOf
-    entry-rest room kept =
-        rw (collected .found) at
-        (room-then _ (λ ts. joined (linesIn ts)) (rw (entry-joined middle left right u v e) at room) w kept)
-
-  pub entry-terms : any middle (sure left right u v) ≡ false → RoomFor (productEntry middle left right u v) first made start →
-      RoomFor (termsOf middle left right u v) first made start
-  unfolding termsOf
-  entry-terms e room = room-first _ (λ ts. joined (linesIn ts)) (rw (entry-joined middle left right u v e) at room)
