@@ -1,5 +1,5 @@
-// Cases, one on each line: a sign for the kind, a space, the name up to a colon, and the parts (spelling.rt), parted by strokes.
-// Parts that are left out are nothing, or 0. A line that starts with a hash is no case.
+// Cases, one on each line: a sign for the kind, a space, the name up to a colon, and the parts (text/src/spelling.rt), parted by
+// strokes. Parts that are left out are nothing, or 0. A line that starts with a hash is no case.
 //
 //     f NAME: FILE                                              the fields of a file
 //     t NAME: TABLE                                             a table, and what is read off
@@ -9,13 +9,13 @@
 //     r NAME: NETLIST / ROOM / FROM / HOLDS / RAILS / PAIRS     a run with two buffers, the first shown from a place on
 //     g NAME: COUNT / ROOM / FROM / HOLDS / RAILS / PAIRS       the same, of a row of so many gates
 //     p NAME: TABLE / ROOM / FROM / HOLD                        a probe with a buffer that is shown from a place on
-use crate::netlists;
-use crate::print;
 use crate::probes;
-use crate::rows;
-use crate::runs;
-use crate::spelling;
-use crate::tables;
+use text::print;
+use text::spelling;
+use views::netlists;
+use views::rows;
+use views::runs;
+use views::tables;
 
 pub fn show_all(text: &[u8]) {
     let mut at = 0;

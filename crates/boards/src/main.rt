@@ -1,14 +1,9 @@
 // Shows the cases that stand on standard input, one on each line: what a service makes of each.
 mod cases;
-mod netlists;
-mod print;
 mod probes;
-mod rows;
-mod runs;
-mod spelling;
-mod tables;
 
 use libc::STDIN_FILENO;
+use text::print;
 
 fn main() {
     let mut text = io::large_buffer();

@@ -1,0 +1,39 @@
+// The number that a run gets, what is left in the first lent buffer from a place on, every line's value from line 0 up, and in the
+// second, every output's pair.
+use text::print;
+use text::spelling;
+
+// A run of a netlist with what else the case says.
+pub fn show(netlist: &[u8], case: &[u8]) {
+    let lines_len = spelling::number(case, 1, 10568);
+    let pairs_len = spelling::number(case, 5, 10568);
+    let mut lines = [b'.'; 10568];
+    let mut pairs = [b'.'; 10568];
+    let refusal = simulation::run(
+        netlist,
+        reader::nth(case, 4),
+        reader::nth(case, 3),
+        &mut lines[0..lines_len],
+        &mut pairs[0..pairs_len],
+    );
+    let from = spelling::number(case, 2, 10568);
+    print::form(b": %", refusal as usize, 0, 0);
+    print::signs(b", lines ", &lines, from, lines_len);
+    print::signs(b", pairs ", &pairs, 0, pairs_len);
+}
+
+// A run of a netlist with one contact, so many gates of five bytes 0, ANDs of the constant 0, and one output, the last line and
+// the false rail.
+pub fn show_row(case: &[u8]) {
+    let count = spelling::number(case, 0, 10562);
+    let last = 3 + count;
+    let gate_bytes = 5 * count;
+    let mut file = [0u8; 52819];
+    file[4] = 4;
+    file[5] = (gate_bytes / 256) as u8;
+    file[6] = (gate_bytes % 256) as u8;
+    files::put_field(&mut file, 0, 1, b"\x01");
+    let pair = [(last / 256) as u8, (last % 256) as u8, 0, 3];
+    files::put_field(&mut file, 7 + gate_bytes, 5, &pair);
+    show(&file[0..14 + gate_bytes], case);
+}
