@@ -17,8 +17,8 @@ pub fn find(text: &[u8], from: usize, sign: u8) -> usize
     text.len()
 }
 
-// Writes the parts that a text spells behind its first sign as fields. Says no where there is no sign, or where the parts are too
-// long.
+// Writes the parts that a text spells behind its first sign as fields. Says no where there is no sign, where a sign spells nothing,
+// or where the parts are too long.
 pub fn spell(text: &[u8], case: &mut [u8; 1024]) -> bool {
     let mut start = 0;
     let mut end = 3;
@@ -32,7 +32,11 @@ pub fn spell(text: &[u8], case: &mut [u8; 1024]) -> bool {
             start = end;
             end += 3;
         } else if 47 < sign {
-            case[end] = byte_of(sign);
+            let byte = byte_of(sign);
+            if byte == NO_BYTE {
+                return false;
+            }
+            case[end] = byte;
             end += 1;
         }
     }
@@ -40,15 +44,23 @@ pub fn spell(text: &[u8], case: &mut [u8; 1024]) -> bool {
     0 < text.len()
 }
 
-// The byte that a sign stands for.
+const NO_BYTE: u8 = 255;
+
+// The byte that a sign from 0 up stands for, if any.
 fn byte_of(sign: u8) -> u8 {
-    if sign < 65 {
+    if sign < 58 {
         return sign % 48;
+    }
+    if sign < 65 {
+        return NO_BYTE;
     }
     if sign < 97 {
         return sign - 29;
     }
-    sign - 87
+    if sign < 123 {
+        return sign - 87;
+    }
+    NO_BYTE
 }
 
 // Writes the length of a field that starts and ends at a place.

@@ -32,6 +32,9 @@ add-end c = search needs
 byte-of-requires : tie.Need-byte-of-requires Inv-loop μ-loop
 byte-of-requires c κs = search needs
 
+returns-2 : tie.Need-returns-2 Inv-loop μ-loop
+returns-2 c = search needs
+
 element-write-case : tie.Need-element-write-case Inv-loop μ-loop
 element-write-case c = search needs
 
@@ -50,8 +53,8 @@ loop-again c = ⊎-elim (λ w. search needs) (λ v. ⊎-elim (λ w. search needs
 put-length-requires-2 : tie.Need-put-length-requires-2 Inv-loop μ-loop
 put-length-requires-2 c κs = search needs
 
-returns-2 : tie.Need-returns-2 Inv-loop μ-loop
-returns-2 c = search needs
+returns-3 : tie.Need-returns-3 Inv-loop μ-loop
+returns-3 c = search needs
 
 pub spell-spec : {M : Type 1} → statement M
 spell-spec =
@@ -65,10 +68,11 @@ spell-spec =
     put-length-requires
     add-end
     byte-of-requires
+    returns-2
     element-write-case
     add-end-2
     add-i
     loop-less
     loop-again
     put-length-requires-2
-    returns-2)
+    returns-3)
