@@ -76,7 +76,7 @@ pub fn ask_form(file: &[u8]) -> Form
 }
 
 // The number of two bytes at a place.
-fn number_at(bytes: &[u8], at: usize) -> u16
+pub fn number_at(bytes: &[u8], at: usize) -> u16
     requires { ⌜ at + 2 ≤ length (now bytes) ⌝ }
     ensures { λ r. ⌜ r ≡ numberAt (now (bytes .entry)) at ⌝ }
 {

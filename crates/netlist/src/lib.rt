@@ -16,6 +16,7 @@ pub use form::Form;
 pub use form::ask_form;
 pub use form::gate_at;
 pub use form::hold_at;
+pub use form::number_at;
 pub use form::pair_at;
 pub use wiring::Wiring;
 pub use wiring::ask_wiring;

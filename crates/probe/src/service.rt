@@ -133,7 +133,7 @@ fn find(gates: &[u8], pairs: &[u8], n: usize, hold: &[u8], buffer: &mut [u8]) ->
     requires { ⌜ Findable n (now gates) (now pairs) (now hold) (length (now buffer)) ⌝ }
     ensures { λ r. ⌜ Found n (now (gates .entry)) (now (pairs .entry)) (now (hold .entry)) (now (buffer .entry)) r (now (buffer .exit)) ⌝ }
 {
-    let line = words::number_at(hold, 0);
+    let line = netlist::number_at(hold, 0) as usize;
     let input = search::search(gates, pairs, n, line, hold[2]);
     let start = write_at(gates, pairs, n, hold, input, buffer);
     let end = start + (2 + 2 * n + gates.len() / 5);

@@ -4,7 +4,7 @@ ghost use mathlib.Core.List.{[], _∷_, map};
 ghost use Prim.Native.Nat.{ℕ, _+_, _*_, _/_, _%_, _≤_, _<_};
 ghost use lib.ListN.{length, getD, take};
 ghost use Rattle.diagram.specs.Diagram.{inputOf};
-ghost use Rattle.netlist.specs.Netlist.{numberAt, gateLine, gatesOf};
+ghost use Rattle.netlist.specs.Netlist.{gateLine, gatesOf};
 ghost use Rattle.simulation.specs.Run.{rail, gate, workOut};
 ghost use Rattle.rules.specs.Code.{codeRails};
 ghost use Rattle.faults.specs.Betrayal.{stuckAt};
@@ -15,14 +15,6 @@ fn wide(x: u8) -> u16
     ensures { λ r. ⌜ r ≡ x ⌝ }
 {
     x as u16
-}
-
-// The number of two bytes at a place, in 16 bits.
-fn source_at(bytes: &[u8], at: usize) -> u16
-    requires { ⌜ at + 2 ≤ length (now bytes) ⌝ }
-    ensures { λ r. ⌜ r ≡ numberAt (now (bytes .entry)) at ⌝ }
-{
-    fields::number(bytes[at], bytes[at + 1]) as u16
 }
 
 // Writes the rails' words from line 2 up.
@@ -54,8 +46,8 @@ pub fn take_sources(gates: &[u8], first: usize, line: usize, value: u8, sources:
     for g in 0..gates.len() / 5 {
         let from = 5 * g;
         let to = 2 * g;
-        sources[to] = show_source(line, value, first + g, source_at(gates, from + 1));
-        sources[to + 1] = show_source(line, value, first + g, source_at(gates, from + 3));
+        sources[to] = show_source(line, value, first + g, netlist::number_at(gates, from + 1));
+        sources[to + 1] = show_source(line, value, first + g, netlist::number_at(gates, from + 3));
     }
 }
 

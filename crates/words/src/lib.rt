@@ -4,7 +4,6 @@ mod words;
 pub use words::ONES;
 pub use words::lowest_bit;
 pub use words::make_word;
-pub use words::number_at;
 pub use words::rail_word;
 pub use words::same_word;
 pub use words::show_word;

@@ -18,20 +18,12 @@ const PATTERNS: [u64; 6] = [
     0xFFFF_FFFF_0000_0000,
 ];
 
-// The number of two bytes at a place.
-pub fn number_at(bytes: &[u8], at: usize) -> usize
-    requires { ⌜ at + 2 ≤ length (now bytes) ⌝ }
-    ensures { λ r. ⌜ r ≡ numberAt (now (bytes .entry)) at ⌝ }
-{
-    fields::number(bytes[at], bytes[at + 1])
-}
-
 // The word of the line that two bytes name.
 pub fn word_at(bytes: &[u8], at: usize, words: &[u64]) -> u64
     requires { ⌜ (at + 2 ≤ length (now bytes)) × (numberAt (now bytes) at < length (now words)) ⌝ }
     ensures { λ r. ⌜ r ≡ getD (now (words .entry)) (numberAt (now (bytes .entry)) at) 0 ⌝ }
 {
-    words[number_at(bytes, at)]
+    words[netlist::number_at(bytes, at) as usize]
 }
 
 // The value of the line that two bytes name.
@@ -39,7 +31,7 @@ pub fn value_at(bytes: &[u8], at: usize, lines: &[u8]) -> u8
     requires { ⌜ (at + 2 ≤ length (now bytes)) × (numberAt (now bytes) at < length (now lines)) ⌝ }
     ensures { λ r. ⌜ r ≡ getD (now (lines .entry)) (numberAt (now (bytes .entry)) at) 0 ⌝ }
 {
-    lines[number_at(bytes, at)]
+    lines[netlist::number_at(bytes, at) as usize]
 }
 
 // A value at all 64 inputs.

@@ -54,6 +54,9 @@ part c =
 number-at-requires : tie.Need-number-at-requires
 number-at-requires c κs = search needs
 
+cast-line : tie.Need-cast-line
+cast-line c = search needs
+
 shared-slice-read-search : tie.Need-shared-slice-read-search
 shared-slice-read-search c = search needs
 
@@ -117,6 +120,7 @@ find-spec =
     tie.close
     (tie.spec
     number-at-requires
+    cast-line
     shared-slice-read-search
     search-requires
     write-at-requires

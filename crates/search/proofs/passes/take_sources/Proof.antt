@@ -29,11 +29,11 @@ mul-to c = search needs
 add-show-source : tie.Need-add-show-source Inv-loop μ-loop
 add-show-source c = search needs
 
-add-source-at : tie.Need-add-source-at Inv-loop μ-loop
-add-source-at c = search needs
+add-number-at : tie.Need-add-number-at Inv-loop μ-loop
+add-number-at c = search needs
 
-source-at-requires : tie.Need-source-at-requires Inv-loop μ-loop
-source-at-requires c κs = omega arith
+number-at-requires : tie.Need-number-at-requires Inv-loop μ-loop
+number-at-requires c κs = omega arith
 
 show-source-requires : tie.Need-show-source-requires Inv-loop μ-loop
 show-source-requires c κs = search needs
@@ -47,11 +47,11 @@ slice-write-sources c = omega arith
 add-show-source-2 : tie.Need-add-show-source-2 Inv-loop μ-loop
 add-show-source-2 c = search needs
 
-add-source-at-2 : tie.Need-add-source-at-2 Inv-loop μ-loop
-add-source-at-2 c = search needs
+add-number-at-2 : tie.Need-add-number-at-2 Inv-loop μ-loop
+add-number-at-2 c = search needs
 
-source-at-requires-2 : tie.Need-source-at-requires-2 Inv-loop μ-loop
-source-at-requires-2 c κs = omega arith
+number-at-requires-2 : tie.Need-number-at-requires-2 Inv-loop μ-loop
+number-at-requires-2 c κs = omega arith
 
 show-source-requires-2 : tie.Need-show-source-requires-2 Inv-loop μ-loop
 show-source-requires-2 c κs = search needs
@@ -79,8 +79,8 @@ loop-again c =
       omega arith,
       simp length-set (here .loop .inv .1),
       sources-more _ _ _ (args .gates .now) (here .loop .sources) (here .loop .g) _ _ (omega arith)
-          (c .before .before .show-source .ensures ∙ ap shows (c .before .before .before .source-at .ensures))
-          (c .show-source2 .ensures ∙ ap shows (c .before .source-at2 .ensures))
+          (c .before .before .show-source .ensures ∙ ap shows (c .before .before .before .number-at .ensures))
+          (c .show-source2 .ensures ∙ ap shows (c .before .number-at2 .ensures))
           (here .loop .inv .2),
     )
 
@@ -103,14 +103,14 @@ take-sources-spec =
     mul-from
     mul-to
     add-show-source
-    add-source-at
-    source-at-requires
+    add-number-at
+    number-at-requires
     show-source-requires
     mul-sources
     slice-write-sources
     add-show-source-2
-    add-source-at-2
-    source-at-requires-2
+    add-number-at-2
+    number-at-requires-2
     show-source-requires-2
     add-sources
     mul-sources-2

@@ -9,6 +9,9 @@ use Rattle.words.proofs.words.value_at.Tie as tie
 number-at-requires : tie.Need-number-at-requires
 number-at-requires c κs = search needs
 
+cast-result : tie.Need-cast-result
+cast-result c = search needs
+
 shared-slice-read-result : tie.Need-shared-slice-read-result
 shared-slice-read-result c = search needs
 
@@ -16,4 +19,4 @@ returns : tie.Need-returns
 returns c = ap (λ (i : ℕ). getD (c .before .before .before .before .args .lines .now) i 0) (c .before .number-at .ensures)
 
 pub value-at-spec : {M : Type 1} → statement M
-value-at-spec = tie.close (tie.spec number-at-requires shared-slice-read-result returns)
+value-at-spec = tie.close (tie.spec number-at-requires cast-result shared-slice-read-result returns)

@@ -9,6 +9,9 @@ use Rattle.words.proofs.words.word_at.Tie as tie
 number-at-requires : tie.Need-number-at-requires
 number-at-requires c κs = search needs
 
+cast-result : tie.Need-cast-result
+cast-result c = search needs
+
 mul-result : tie.Need-mul-result
 mul-result c = search needs
 
@@ -19,4 +22,4 @@ returns : tie.Need-returns
 returns c = ap (λ (i : ℕ). getD (c .before .before .before .before .args .words .now) i 0) (c .before .number-at .ensures)
 
 pub word-at-spec : {M : Type 1} → statement M
-word-at-spec = tie.close (tie.spec number-at-requires mul-result shared-slice-read-result returns)
+word-at-spec = tie.close (tie.spec number-at-requires cast-result mul-result shared-slice-read-result returns)
