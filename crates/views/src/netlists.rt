@@ -62,8 +62,8 @@ fn separate(place: usize) {
 fn show_gate(gates: &[u8], at: usize, line: usize)
     requires { ⌜ at + 5 ≤ length (now gates) ⌝ }
 {
-    let left = number_at(gates, at + 1);
-    let right = number_at(gates, at + 3);
+    let left = netlist::number_at(gates, at + 1) as usize;
+    let right = netlist::number_at(gates, at + 3) as usize;
     if gates[at] == 0 {
         print::form(b"% AND % %", line, left, right);
     } else {
@@ -71,18 +71,11 @@ fn show_gate(gates: &[u8], at: usize, line: usize)
     }
 }
 
-// The number of a line, from its two bytes.
-fn number_at(bytes: &[u8], at: usize) -> usize
-    requires { ⌜ at + 2 ≤ length (now bytes) ⌝ }
-{
-    fields::number(bytes[at], bytes[at + 1])
-}
-
 // Each output's true line and false line.
 fn show_outputs(outputs: &[u8]) {
     for j in 0..outputs.len() / 4 {
-        let high = number_at(outputs, 4 * j);
-        let low = number_at(outputs, 4 * j + 2);
+        let high = netlist::number_at(outputs, 4 * j) as usize;
+        let low = netlist::number_at(outputs, 4 * j + 2) as usize;
         print::form(b"\noutput %: % %", j, high, low);
     }
 }

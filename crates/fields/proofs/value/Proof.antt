@@ -1,4 +1,4 @@
--- `fields::value` meets its contract: where the field runs past the file, what is taken past the end is nothing.
+-- `value` meets its contract: where the field runs past the file, what is taken past the end is nothing.
 use borrow.Author.Needs.{needs}
 use native.Mathlib.Omega.{arith}
 use native.Mathlib.Nat.{add-sub-cancel-left}

@@ -1,4 +1,4 @@
--- `fields::whole` meets its contract. The loop's invariant: the file's framing is that of the fields from the cursor on. The measure is what is left of the file.
+-- `whole` meets its contract. The loop's invariant: the file's framing is that of the fields from the cursor on. The measure is what is left of the file.
 use borrow.Author.Needs.{needs}
 use native.Mathlib.Omega.{arith}
 use Prim.Native.Nat.{_-_}

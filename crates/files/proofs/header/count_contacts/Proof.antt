@@ -1,4 +1,4 @@
--- `count_contacts` meets its contract: at each `return` the tests that led there decide question 2.
+-- `header::count_contacts` meets its contract: at each `return` the tests that led there decide question 2.
 use borrow.Author.Needs.{needs}
 use native.Mathlib.Omega.{arith}
 use mathlib.Core.Path.{sym, _∙_}

@@ -1,4 +1,4 @@
--- `nth` meets its contract, by a walk of its code: a reader is made, moved past the fields before the place, stepped, and asked for the
+-- `place::nth` meets its contract, by a walk of its code: a reader is made, moved past the fields before the place, stepped, and asked for the
 -- value that the step found. Of the four calls the walk knows their contracts alone.
 use mathlib.Core.Path.{_≡_, refl, ap, _∙_}
 use Prim.Native.Nat.{ℕ, _<_, _^_}

@@ -1,4 +1,4 @@
--- `faults::words::agreeing` meets its contract. The loop's invariant: at each bit the mask tells whether an output before j agrees.
+-- `inputs::agreeing` meets its contract. The loop's invariant: at each bit the mask tells whether an output before j agrees.
 use borrow.Author.Needs.{needs}
 use Prim.Native.Nat.{ℕ, _-_, _≤_, _<_}
 use native.Mathlib.Omega.{arith}

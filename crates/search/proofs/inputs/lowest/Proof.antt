@@ -1,4 +1,4 @@
--- `faults::words::lowest` meets its contract. The loop's invariant: no output before j agrees, so j is an output.
+-- `inputs::lowest` meets its contract. The loop's invariant: no output before j agrees, so j is an output.
 use borrow.Author.Count.{below-none, below-more}
 use borrow.Author.Needs.{needs}
 use borrow.Author.Tests.{eq-eqb, ne-eqb}

@@ -1,4 +1,4 @@
--- `faults::words::search` meets its contract, by that of `search_in`: each room is enough for the boards that it is for.
+-- `inputs::search` meets its contract, by that of `search_in`: each room is enough for the boards that it is for.
 use borrow.Author.Needs.{needs}
 use Prim.Native.Nat.{ℕ, _+_, _*_, _/_, _≤_}
 use native.Mathlib.Omega.{arith}

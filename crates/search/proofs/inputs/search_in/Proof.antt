@@ -1,4 +1,4 @@
--- `faults::words::search_in` meets its contract. The loop's invariant: no input below base betrays, so base is below 2 ^ n.
+-- `inputs::search_in` meets its contract. The loop's invariant: no input below base betrays, so base is below 2 ^ n.
 use borrow.Author.Count.{below-none}
 use borrow.Author.Needs.{needs}
 use Prim.Native.Nat.{ℕ, _+_, _*_, _-_, _/_, _%_, _^_, _≤_, _<_}

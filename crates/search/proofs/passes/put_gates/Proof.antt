@@ -1,4 +1,4 @@
--- `faults::words::put_gates` meets its contract. The loop's invariant: at each bit the lines below gate g obey the run rule.
+-- `passes::put_gates` meets its contract. The loop's invariant: at each bit the lines below gate g obey the run rule.
 use borrow.Author.Needs.{needs}
 use Prim.Native.Nat.{_-_, _/_, _≤_}
 use native.Mathlib.Omega.{arith}

@@ -1,4 +1,4 @@
--- `faults::words::put_inputs` meets its contract: the rails are worked out from the constants.
+-- `passes::put_inputs` meets its contract: the rails are worked out from the constants.
 use borrow.Author.Needs.{needs}
 use Prim.Native.Nat.{_+_}
 use native.Mathlib.Omega.{arith}

@@ -1,4 +1,4 @@
--- `faults::words::put_rails` meets its contract. The loop's invariant: at each bit the lines below contact i's rails obey the run rule.
+-- `passes::put_rails` meets its contract. The loop's invariant: at each bit the lines below contact i's rails obey the run rule.
 use borrow.Author.Needs.{needs}
 use Prim.Native.Nat.{ℕ, _+_, _-_, _≤_, _<_}
 use native.Mathlib.Omega.{arith}

@@ -1,4 +1,4 @@
--- `faults::words::show_source` meets its contract, by cases on the line.
+-- `passes::show_source` meets its contract, by cases on the line.
 use borrow.Author.Needs.{needs}
 use borrow.Author.Tests.{eq-eqb, ne-eqb}
 use Rattle.search.proofs.passes.show_source.Statement.{statement}

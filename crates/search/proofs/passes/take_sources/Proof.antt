@@ -1,4 +1,4 @@
--- `faults::words::take_sources` meets its contract. The loop's invariant: the sources of the gates before gate g are written.
+-- `passes::take_sources` meets its contract. The loop's invariant: the sources of the gates before gate g are written.
 use borrow.Author.Needs.{needs}
 use Prim.Native.Nat.{_+_, _-_, _/_, _≤_}
 use native.Mathlib.Omega.{arith}

@@ -1,4 +1,4 @@
--- `faults::words::work_words` meets its contract: the gates are worked out from the constants and the rails.
+-- `passes::work_words` meets its contract: the gates are worked out from the constants and the rails.
 use borrow.Author.Needs.{needs}
 use Prim.Native.Nat.{_+_}
 use native.Mathlib.Omega.{arith}

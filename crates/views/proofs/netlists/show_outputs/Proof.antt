@@ -22,6 +22,9 @@ mul-number-at c = search needs
 number-at-requires : tie.Need-number-at-requires Inv-loop μ-loop
 number-at-requires c κs = search needs
 
+cast-high : tie.Need-cast-high Inv-loop μ-loop
+cast-high c = search needs
+
 mul-number-at-2 : tie.Need-mul-number-at-2 Inv-loop μ-loop
 mul-number-at-2 c = search needs
 
@@ -30,6 +33,9 @@ add-number-at c = search needs
 
 number-at-requires-2 : tie.Need-number-at-requires-2 Inv-loop μ-loop
 number-at-requires-2 c κs = search needs
+
+cast-low : tie.Need-cast-low Inv-loop μ-loop
+cast-low c = search needs
 
 slice-aggregate-form : tie.Need-slice-aggregate-form Inv-loop μ-loop
 slice-aggregate-form c = search needs
@@ -58,9 +64,11 @@ show-outputs-spec =
     loop-holds
     mul-number-at
     number-at-requires
+    cast-high
     mul-number-at-2
     add-number-at
     number-at-requires-2
+    cast-low
     slice-aggregate-form
     form-requires
     add-j

@@ -1,4 +1,4 @@
--- `faults::words::lowest_bit` meets its contract, by the laws of the zeros below the lowest set bit.
+-- `words::lowest_bit` meets its contract, by the laws of the zeros below the lowest set bit.
 use native.Mathlib.Omega.{arith}
 use Rattle.words.proofs.Trailing.{trailing-set, trailing-below}
 use Rattle.words.proofs.words.lowest_bit.Statement.{statement}

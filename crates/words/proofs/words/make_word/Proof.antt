@@ -1,3 +1,4 @@
+-- `words::make_word` meets its contract, by cases on the kind.
 use borrow.Author.Tests.{eq-eqb, ne-eqb}
 use Rattle.words.proofs.words.make_word.Statement.{statement}
 use Rattle.words.proofs.words.make_word.Tie as tie

@@ -1,4 +1,4 @@
--- `faults::words::rail_word` meets its contract: contacts below 6 by their patterns, the others have one value at all 64 inputs.
+-- `words::rail_word` meets its contract: contacts below 6 by their patterns, the others have one value at all 64 inputs.
 use borrow.Author.Needs.{needs}
 use native.Mathlib.Omega.{arith}
 use mathlib.Core.Path.{_≡_, sym, _∙_}

@@ -1,4 +1,4 @@
--- `faults::words::same_word` meets its contract, by the bits of 0 and of all ones.
+-- `words::same_word` meets its contract, by the bits of 0 and of all ones.
 use native.Mathlib.Omega.{arith}
 use mathlib.Core.Path.{_≡_, sym, _∙_}
 use Rattle.words.proofs.Bits.{bit-zero, bit-ones}

@@ -1,3 +1,4 @@
+-- `words::show_word` meets its contract, by cases on the line.
 use borrow.Author.Tests.{eq-eqb, ne-eqb}
 use Rattle.words.proofs.words.show_word.Statement.{statement}
 use Rattle.words.proofs.words.show_word.Tie as tie

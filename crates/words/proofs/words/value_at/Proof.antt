@@ -1,4 +1,4 @@
--- `faults::words::value_at` meets its contract, by that of `number_at`.
+-- `words::value_at` meets its contract, by that of `number_at`.
 use borrow.Author.Needs.{needs}
 use mathlib.Core.Path.{ap}
 use lib.ListN.{getD}

@@ -1,4 +1,4 @@
--- `faults::words::word_at` meets its contract, by that of `number_at`.
+-- `words::word_at` meets its contract, by that of `number_at`.
 use borrow.Author.Needs.{needs}
 use mathlib.Core.Path.{ap}
 use lib.ListN.{getD}
