@@ -3,7 +3,7 @@ use Prim.Native.Nat.{ℕ, _+_, _*_, _/_, _≤_, _<_, min}
 use native.Mathlib.Omega.{arith}
 use mathlib.Core.Path.{_≡_, refl, sym, ap, ap₂, _∙_}
 use mathlib.Core.List.{List, [], _∷_, _++_, map, flatMap, append-nil, append-assoc, map-append}
-use lib.ListN.{length, getD, set, drop, replicate, length-append, length-map}
+use lib.ListN.{length, getD, set, drop, replicate, length-append, length-map, length-replicate}
 use lib.Seq.{paste}
 use Rattle.fields.specs.Fields.{Item, valueIn}
 use Rattle.table.specs.Table.{padded, levelsOf, diagramOf}
@@ -35,8 +35,18 @@ decoded-none is e =
     }
 
 module _ {ls : List (List ℕ)} {level : ℕ} {m : List Item} {widths edges : List ℕ} (s : Decoded ls level m widths edges) where
+  pub length-widths : length widths ≡ 12
+  length-widths = ap length (s .widths-are) ∙ length-padded 12 (map half (s .passed))
+
   pub length-edges : length edges ≡ 192
   length-edges = ap length (s .edges-are) ∙ length-padded 192 (flatMap (padded 16) (s .passed))
+
+  -- The arrays are as long as they came.
+  pub kept-widths : {ws : List ℕ} → ws ≡ replicate 12 0 → length widths ≡ length ws
+  kept-widths e = length-widths ∙ sym (ap length e ∙ length-replicate {A = ℕ} 12 0)
+
+  pub kept-edges : {es : List ℕ} → es ≡ replicate 192 0 → length edges ≡ length es
+  kept-edges e = length-edges ∙ sym (ap length e ∙ length-replicate {A = ℕ} 192 0)
 
   pub decoded-one : level < 12 → {i : Item} {r : List Item} → m ≡ i ∷ r → {v : List ℕ} → v ≡ i .value →
       Decoded ls (level + 1) r (set widths level (half v)) (paste edges (level * 16) v (min 16 (length v)))

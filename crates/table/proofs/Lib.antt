@@ -10,3 +10,4 @@ pub mod Tables
 pub mod Encode
 pub mod SameFile
 pub mod Promises
+pub mod Lent

@@ -4,10 +4,10 @@ use native.Mathlib.Omega.{arith}
 use mathlib.Core.Path.{_≡_, refl, sym, ap, _∙_}
 use mathlib.Core.Bool.{Bool, true, false, cond}
 use mathlib.Core.List.{List, [], _∷_}
-use lib.ListN.{length, getD, drop}
+use lib.ListN.{length, drop}
 use Rattle.fields.specs.declared.Framing.{Framing}
 use Rattle.fields.specs.declared.Framing.the-variants.{Whole, Broken}
-use Rattle.fields.specs.Fields.{Item, fieldsOf, valueIn}
+use Rattle.fields.specs.Fields.{Item, fieldsOf}
 use Rattle.fields.specs.Refusals.{framingNumber, firstNo}
 use Rattle.files.specs.declared.header.Contacts.{Contacts}
 use Rattle.files.specs.declared.header.Contacts.the-variants.{Counted, Uncounted}
@@ -17,7 +17,7 @@ use Rattle.table.specs.declared.fit.Outputs.{Outputs}
 use Rattle.table.specs.declared.fit.Outputs.the-variants.{Listed, Unlisted}
 use Rattle.table.specs.declared.fit.Levels.the-variants.{Given, Lacking}
 use Rattle.diagram.specs.Questions.{Sized}
-use Rattle.table.specs.Table.{outputsIn, outputsNumber, areLevels, levelsNumber, diagramOf, fieldsRefusal}
+use Rattle.table.specs.Table.{outputsIn, outputsNumber, areLevels, levelsNumber, contactsOf, diagramOf, fieldsRefusal}
 use Rattle.diagram.proofs.Asked.{width-is}
 use Rattle.table.proofs.Laid.{value-at, width-of}
 use Rattle.table.proofs.Decoded.{half}
@@ -37,7 +37,7 @@ shaped file z = go (fieldsOf file .framing) (contactsIn is) (outputsIn (drop 1 i
     is = fieldsOf file .items
 
     n : ℕ
-    n = getD (valueIn is 0) 0 0
+    n = contactsOf is
 
     go : (a : Framing) (b : Contacts) (c : Outputs) (e : Bool) →
         fieldsOf file .framing ≡ a → contactsIn is ≡ b → outputsIn (drop 1 is) ≡ c → areLevels n (drop 2 is) ≡ e →
@@ -50,7 +50,7 @@ shaped file z = go (fieldsOf file .framing) (contactsIn is) (outputsIn (drop 1 i
     go Whole (Counted k) (Listed m) true p q r s z =
         record {
           framing = p;
-          contacts = q ∙ ap Counted (sym (ap (λ (l : List Item). getD (valueIn l 0) 0 0) (counted is k q .split)));
+          contacts = q ∙ ap Counted (sym (ap contactsOf (counted is k q .split)));
           outputs = r ∙ ap Listed (sym (listed (drop 1 is) m r .count) ∙ ap length (value-one is));
           levels = s;
         }

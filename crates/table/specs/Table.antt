@@ -80,16 +80,22 @@ padded (suc n) (x ∷ xs) = x ∷ padded n xs
 abbrev pub levelsOf : List Item → List (List ℕ)
 levelsOf is = map (λ (i : Item). i .value) (drop 2 is)
 
--- The diagram that the fields hold: two bytes for each node, its 0-edge and its 1-edge.
+-- What the fields hold: the count of contacts, the outputs' nodes, and each level's width and edges, two bytes for each node.
+abbrev pub contactsOf : List Item → ℕ
+contactsOf is = getD (valueIn is 0) 0 0
+
+abbrev pub rootsOf : List Item → List ℕ
+rootsOf is = padded 8 (valueIn is 1)
+
+abbrev pub widthsOf : List Item → List ℕ
+widthsOf is = padded 12 (map (λ (v : List ℕ). length v / 2) (levelsOf is))
+
+abbrev pub edgesOf : List Item → List ℕ
+edgesOf is = padded 192 (flatMap (padded 16) (levelsOf is))
+
 unfoldable pub diagramOf : List Item → Diagram
 diagramOf is =
-    record {
-      contacts = getD (valueIn is 0) 0 0;
-      outputs = length (valueIn is 1);
-      roots = padded 8 (valueIn is 1);
-      widths = padded 12 (map (λ (v : List ℕ). length v / 2) (levelsOf is));
-      edges = padded 192 (flatMap (padded 16) (levelsOf is));
-    }
+    record { contacts = contactsOf is; outputs = length (valueIn is 1); roots = rootsOf is; widths = widthsOf is; edges = edgesOf is }
 
 -- The diagram in a file.
 abbrev pub diagramIn : List ℕ → Diagram
@@ -103,7 +109,7 @@ fieldsRefusal file =
     (framingNumber (fieldsOf file .framing)
     ∷ contactsNumber (contactsIn is)
     ∷ outputsNumber (outputsIn (drop 1 is))
-    ∷ levelsNumber (levelsIn (getD (valueIn is 0) 0 0) (drop 2 is))
+    ∷ levelsNumber (levelsIn (contactsOf is) (drop 2 is))
     ∷ [])
 
 unfoldable pub diagramRefusal : Diagram → ℕ

@@ -98,16 +98,25 @@ pub fn read(file: &[u8]) -> Table
     if first != 0 {
         return refused(first);
     }
-    let d = decode::decode(file);
-    let n = d.contacts;
-    let m = d.outputs;
-    let second = asked_of_diagram(n, &d.widths, &d.edges, m, &d.roots);
+    let mut roots = [0u8; 8];
+    let mut widths = [0usize; 12];
+    let mut edges = [0u8; 192];
+    let n = decode::contacts(file);
+    let m = decode::lay_outputs(file, &mut roots);
+    decode::lay_levels(file, &mut widths, &mut edges);
+    let second = asked_of_diagram(n, &widths, &edges, m, &roots);
     if second != 0 {
         return refused(second);
     }
     Table {
         refusal: 0,
-        diagram: d,
+        diagram: Diagram {
+            contacts: n,
+            outputs: m,
+            roots: roots,
+            widths: widths,
+            edges: edges,
+        },
     }
 }
 
