@@ -65,11 +65,6 @@ module _ (d : Diagram) (some : 1 ≤ d .contacts) where
       let w = gates-wired g h in
       rw (any-default (boardOf d .gates) g other anyGate h) (record { kind = w .0; left = w .1; right = w .2 })
 
-  -- No constant is a source.
-  pub sources-past : (g : ℕ) → g < length (boardOf d .gates) →
-      let at = getD (boardOf d .gates) g anyGate in (2 ≤ at .left) × (2 ≤ at .right)
-  sources-past g h = let w = flat .0 .has g h in omega arith
-
   pub entry-wired : (u v : ℕ) → lineOf (entryAt (wholeBlock d .1) u v) < lineCount (boardOf d)
   entry-wired u v = line-below (omega arith) (table-at (flat .1) u v)
 

@@ -4,16 +4,13 @@ use native.Mathlib.Omega.{arith}
 use Prim.Native.Nat.{ℕ, suc, _+_, _-_, _≤_, _<_}
 use mathlib.Core.Path.{_≡_, refl, sym, ap, _∙_}
 use mathlib.Core.List.{List, [], _∷_, _++_, append-assoc}
-use lib.ListN.{length, getD, take, drop, set, length-append, length-drop, take-append-drop, List·getD-append}
+use lib.ListN.{length, getD, take, drop, set, length-append, take-append-drop, List·getD-append}
 use lib.Seq.{length-take-le, drop-cons, drop-drop, drop-append-add, take-at, set-append-seam}
 use Rattle.simulation.specs.Run.{Driver, Rule, drive, workOut}
 use Rattle.simulation.specs.Service.{over}
 use Rattle.simulation.proofs.Runs.{length-run, run-append, run-more}
 
 module _ (ws buffer : List ℕ) where
-  pub length-over : length ws ≤ length buffer → length (over ws buffer) ≡ length buffer
-  length-over h = simp (length-append, length-drop) (omega arith)
-
   pub over-at : (i : ℕ) → i < length ws → getD (over ws buffer) i 0 ≡ getD ws i 0
   over-at i h = List·getD-append ws (drop (length ws) buffer) 0 i h
 
@@ -44,9 +41,6 @@ module _ (r : Rule ℕ) (first : ℕ) (buffer : List ℕ) where
   module _ (ds : List (Driver ℕ)) (room : first + length ds ≤ length buffer) where
     pub length-worked : length (worked ds) ≡ first + length ds
     length-worked = length-run r ds (take first buffer) ∙ ap (λ (k : ℕ). k + length ds) (length-take-le first buffer (omega arith))
-
-    pub length-written : length (over (worked ds) buffer) ≡ length buffer
-    length-written = length-over (worked ds) buffer (omega (arith, length-worked))
 
     pub source : (k : ℕ) → k < first + length ds → getD (over (worked ds) buffer) k 0 ≡ getD (worked ds) k 0
     source k h = over-at (worked ds) buffer k (omega (arith, length-worked))
