@@ -10,21 +10,20 @@ use Rattle.netlist.specs.Netlist.{listed}
 use Rattle.rules.specs.declared.Entry.{Entry}
 use Rattle.rules.specs.declared.Entry.the-variants.{Never}
 use Rattle.rules.specs.Make.{Make, return, _>>=_, sequence}
-use Rattle.rules.specs.Blocks.{Matrix, entryAt, levelEntry, levelMatrix}
-use Rattle.blocks.specs.Rails.{railOf}
+use Rattle.rules.specs.Blocks.{Matrix, entryAt, levelEntry, levelMatrix, nodeEntry}
 use Rattle.gates.proofs.Binding.{return-bind, sequence-same}
 use Rattle.products.proofs.Cells.{listed-from}
 
 -- The entries of a level, read from the edges' bytes.
 abbrev pub edgeEntry : List ℕ → ℕ → ℕ → ℕ → Entry
-edgeEntry edges l u = railOf (getD edges (l * 16 + 2 * u) 0) (getD edges (l * 16 + 2 * u + 1) 0) l
+edgeEntry edges l u = nodeEntry (getD edges (l * 16 + 2 * u) 0) (getD edges (l * 16 + 2 * u + 1) 0) l
 
 pub edge-entry : (d : Diagram) (l u v : ℕ) → edgeEntry (d .edges) l u v ≡ levelEntry d l u v
 unfolding edgeAt
 edge-entry d l u v =
     let even : l * 16 + 2 * u ≡ l * 16 + (2 * u + 0) = omega arith in
     let odd : l * 16 + 2 * u + 1 ≡ l * 16 + (2 * u + 1) = omega arith in
-    ap₂ (λ (i j : ℕ). railOf (getD (d .edges) i 0) (getD (d .edges) j 0) l v) even odd
+    ap₂ (λ (i j : ℕ). nodeEntry (getD (d .edges) i 0) (getD (d .edges) j 0) l v) even odd
 
 -- What makes no gate at any place makes none in all.
 returns-listed : {A : Type 0} (f : ℕ → A) (count p : ℕ) → sequence (λ v. return (f v)) count p ≡ return (listed f count p)

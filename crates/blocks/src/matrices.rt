@@ -6,10 +6,9 @@ ghost use Prim.Native.Nat.{suc, _+_, _*_, _-_, _≤_, _<_};
 ghost use lib.ListN.{length};
 ghost use Rattle.diagram.specs.Questions.{Sized};
 ghost use Rattle.diagram.specs.Diagram as diagrams;
-ghost use Rattle.rules.specs.Blocks.{cut, entryAt, levelEntry};
+ghost use Rattle.rules.specs.Blocks.{cut, entryAt, levelEntry, nodeEntry};
 ghost use Rattle.rules.specs.Blocks as blocks;
 ghost use Rattle.gates.specs.Written.{Written, RoomFor};
-ghost use Rattle.blocks.specs.Rails.{railOf};
 ghost use Rattle.products.specs.Cells.{Stored, RowStored};
 
 // The number of nodes of a level; level n has two.
@@ -26,7 +25,7 @@ fn width(d: Diagram, l: usize) -> usize
 // does, the false rail if only the 0-edge does, else never.
 fn rail(zero: u8, one: u8, l: usize, v: usize) -> Entry
     requires { ⌜ l < 12 ⌝ }
-    ensures { λ r. ⌜ r ≡ railOf zero one l v ⌝ }
+    ensures { λ r. ⌜ r ≡ nodeEntry zero one l v ⌝ }
 {
     if one as usize == v {
         if zero as usize == v {
@@ -43,7 +42,7 @@ fn rail(zero: u8, one: u8, l: usize, v: usize) -> Entry
 // Row u of the matrix of level l, for a node with these edges.
 fn level_row(zero: u8, one: u8, l: usize, columns: usize, u: usize, cells: &mut [u16])
     requires { ⌜ (l < 12) × (columns ≤ 8) × (u < 8) × (64 ≤ length (now cells)) ⌝ }
-    ensures { λ _. ⌜ RowStored (now (cells .entry)) (now (cells .exit)) u columns (railOf zero one l) ⌝ }
+    ensures { λ _. ⌜ RowStored (now (cells .entry)) (now (cells .exit)) u columns (nodeEntry zero one l) ⌝ }
 {
     for v in 0..columns {
         cells[8 * u + v] = products::line_of(rail(zero, one, l, v));

@@ -1,14 +1,15 @@
 -- Entries by their lines, the lines among some terms, and the two ways in which an entry of a product comes.
-use Prim.Native.Nat.{ℕ, _≤_}
+use Prim.Native.Nat.{ℕ, _+_, _*_, _≤_}
 use native.Mathlib.Omega.{arith}
-use mathlib.Core.Bool.{Bool, true, false, _&&_}
+use mathlib.Core.Bool.{Bool, true, false, _&&_, cond}
 use mathlib.Core.List.{List, [], _∷_}
+use lib.Dec.{eqb}
 use lib.ListN.{length}
 use Rattle.fields.specs.Bounded.{any}
 use Rattle.rules.specs.declared.Entry.{Entry}
 use Rattle.rules.specs.declared.Entry.the-variants.{Never, Always, Line}
 use Rattle.rules.specs.Make.{Make, return, _>>=_, sequence}
-use Rattle.rules.specs.Blocks.{Matrix, entryAt, term, isAlways, linesIn, joined, productEntry}
+use Rattle.rules.specs.Blocks.{Matrix, entryAt, nodeEntry, term, isAlways, linesIn, joined, productEntry}
 use Rattle.rules.proofs.Every.{Every, none, more}
 
 -- An entry whose line, if it is one, has S.
@@ -16,6 +17,16 @@ pub data OfLine (S : ℕ → Type 0) : Entry → Type 0 where
   never : OfLine S Never
   always : OfLine S Always
   line : {x : ℕ} → S x → OfLine S (Line x)
+
+-- The entry of a node is never, always, or one of its level's rails.
+pub node-entry : {S : ℕ → Type 0} (zero-edge one-edge l v : ℕ) → S (2 + 2 * l) → S (3 + 2 * l) → OfLine S (nodeEntry zero-edge one-edge l v)
+node-entry {S} zero-edge one-edge l v on off = go (eqb one-edge v) (eqb zero-edge v)
+  where
+    go : (p q : Bool) → OfLine S (cond p (cond q Always (Line (2 + 2 * l))) (cond q (Line (3 + 2 * l)) Never))
+    go true true = always
+    go true false = line on
+    go false true = line off
+    go false false = never
 
 pub of-map : {S R : ℕ → Type 0} {t : Entry} → ((x : ℕ) → S x → R x) → OfLine S t → OfLine R t
 of-map k never = never

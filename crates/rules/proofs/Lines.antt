@@ -4,21 +4,18 @@ use Prim.Native.Nat.{ℕ, suc, _+_, _*_, _^_, _≤_, _<_, max}
 use native.Mathlib.Nat.{mul-le-mul-right}
 use native.Mathlib.Omega.{arith}
 use mathlib.Core.Path.{_≡_}
-use mathlib.Core.Bool.{Bool, true, false, cond}
 use mathlib.Core.List.{List}
-use lib.Dec.{eqb}
 use lib.ListN.{length, length-take, length-drop}
 use Rattle.diagram.specs.declared.Diagram.{Diagram}
-use Rattle.diagram.specs.Diagram.{width, edge}
+use Rattle.diagram.specs.Diagram.{width}
 use Rattle.netlist.specs.Netlist.{gateLine}
 use Rattle.rules.specs.declared.Entry.{Entry}
-use Rattle.rules.specs.declared.Entry.the-variants.{Never, Always, Line}
 use Rattle.rules.specs.Make.{Make, return, sequence}
 use Rattle.rules.specs.Blocks.{Cut, one, two, size, cut, Matrix, entryAt, levelEntry, term, orTree, joined, productEntry, product, levelMatrix, block}
 use Rattle.rules.proofs.Cuts.{size-cut}
 use Rattle.rules.proofs.Heights.{height, height-cut}
 use Rattle.rules.proofs.Every.{Every, none, more, every-map, every-at, every-take, every-drop}
-use Rattle.rules.proofs.Entries.{OfLine, never, always, line, of-map, of-lines, lines-few, entry-either}
+use Rattle.rules.proofs.Entries.{OfLine, never, always, line, of-map, of-lines, lines-few, entry-either, node-entry}
 use Rattle.rules.proofs.Lays.{Lies, Lays, lays-return, lays-bind, lays-weaken, lays-gate, lays-sequence}
 
 -- A matrix whose lines lie below line next and have at most depth e.
@@ -113,14 +110,8 @@ module _ {δ : ℕ → ℕ} {most : ℕ} where
 module _ {δ : ℕ → ℕ} (d : Diagram) (flat : (x : ℕ) → x < gateLine (d .contacts) → δ x ≡ 0) where
   level-lies : (next l u v : ℕ) → l < d .contacts → gateLine (d .contacts) ≤ next →
       OfLine (Lies δ 0 next) (levelEntry d l u v)
-  level-lies next l u v h high = go (eqb (edge d l u true) v) (eqb (edge d l u false) v)
-    where
-      go : (p q : Bool) →
-          OfLine (Lies δ 0 next) (cond p (cond q Always (Line (2 + 2 * l))) (cond q (Line (3 + 2 * l)) Never))
-      go true true = always
-      go true false = line {x = 2 + 2 * l} (omega (arith, flat (2 + 2 * l) (omega arith)))
-      go false true = line {x = 3 + 2 * l} (omega (arith, flat (3 + 2 * l) (omega arith)))
-      go false false = never
+  level-lies next l u v h high =
+      node-entry _ _ l v (omega (arith, flat (2 + 2 * l) (omega arith))) (omega (arith, flat (3 + 2 * l) (omega arith)))
 
   module _ (most b : ℕ) (narrow : (l : ℕ) → l ≤ d .contacts → width d l ≤ 2 ^ b) where
     pub block-lays : (c : Cut) (l next : ℕ) → l + size c ≤ d .contacts → gateLine (d .contacts) ≤ next →

@@ -38,13 +38,17 @@ Matrix = List (List Entry)
 abbrev pub entryAt : Matrix → ℕ → ℕ → Entry
 entryAt m u v = getD (getD m u []) v Never
 
--- In the matrix of one level, row u and column v: always if both edges of u go to v, the true rail if only the 1-edge does, the
--- false rail if only the 0-edge does, else never.
+-- In the matrix of level l, column v, the entry of a node with these edges: always if both go to v, the true rail if only the 1-edge
+-- does, the false rail if only the 0-edge does, else never.
+abbrev pub nodeEntry : ℕ → ℕ → ℕ → ℕ → Entry
+nodeEntry zero-edge one-edge l v =
+    cond (eqb one-edge v)
+    (cond (eqb zero-edge v) Always (Line (2 + 2 * l)))
+    (cond (eqb zero-edge v) (Line (3 + 2 * l)) Never)
+
+-- Row u is node u's.
 abbrev pub levelEntry : Diagram → ℕ → ℕ → ℕ → Entry
-levelEntry d l u v =
-    cond (eqb (edge d l u true) v)
-    (cond (eqb (edge d l u false) v) Always (Line (2 + 2 * l)))
-    (cond (eqb (edge d l u false) v) (Line (3 + 2 * l)) Never)
+levelEntry d l u = nodeEntry (edge d l u false) (edge d l u true) l
 
 -- A term with never is dropped, a term with always is its other factor, else an AND is made with the left factor first.
 unfoldable pub term : Entry → Entry → Make Entry

@@ -4,17 +4,18 @@ use native.Mathlib.Omega.{arith}
 use Prim.Native.Nat.{_≤_, _-_}
 use mathlib.Core.Path.{_≡_, refl, ap, _∙_}
 use lib.ListN.{length, length-set}
+use Rattle.rules.specs.Blocks.{nodeEntry}
 use Rattle.rules.specs.Board.{lineOf}
+use Rattle.rules.proofs.Entries.{node-entry}
 use Rattle.products.specs.Cells.{entryOf, RowStored}
-use Rattle.blocks.specs.Rails.{railOf}
 use Rattle.products.proofs.Cells.{row-none, row-more}
-use Rattle.blocks.proofs.Rails.{rail-stands}
+use Rattle.products.proofs.Standing.{real-stands}
 use Rattle.blocks.proofs.matrices.level_row.Statement.{statement}
 use Rattle.blocks.proofs.matrices.level_row.Tie as tie
 
 abbrev Inv-loop : tie.InvT-loop
 Inv-loop zero one l columns u cells₀ v₀ cells v =
-    (v ≤ columns) × (length cells ≡ length cells₀) × RowStored cells₀ cells u v (railOf zero one l)
+    (v ≤ columns) × (length cells ≡ length cells₀) × RowStored cells₀ cells u v (nodeEntry zero one l)
 
 abbrev μ-loop : tie.MeasureT-loop
 μ-loop zero one l columns u cells₀ v₀ cells v = columns - v
@@ -50,7 +51,7 @@ loop-again : tie.Need-loop-again Inv-loop μ-loop
 loop-again c =
     let loop = c .before .before .before in
     let args = loop .before .before .args in
-    let stands = rail-stands (args .zero) (args .one) (args .l) (loop .loop .v) in (
+    let stands = real-stands (node-entry (args .zero) (args .one) (args .l) (loop .loop .v) (omega arith) (omega arith)) in (
       omega arith,
       simp length-set (loop .loop .inv .1),
       row-more _ (loop .loop .inv .2) (omega arith)
