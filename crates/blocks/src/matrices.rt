@@ -17,8 +17,7 @@ fn width(d: Diagram, l: usize) -> usize
     ensures { λ r. ⌜ r ≡ diagrams.width d l ⌝ }
 {
     let n = d.contacts;
-    let widths = d.widths;
-    if l < n { widths[l] } else { 2 }
+    diagram::width(&d.widths, n, l)
 }
 
 // The entry of a node with these edges in column v of level l: always if both edges go there, the true rail if only the 1-edge

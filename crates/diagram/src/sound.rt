@@ -35,7 +35,7 @@ pub enum Branching {
 }
 
 // The number of nodes of a level of n; level n has two.
-fn width(widths: &[usize], n: usize, level: usize) -> usize
+pub fn width(widths: &[usize], n: usize, level: usize) -> usize
     requires { ⌜ n ≤ length (now widths) ⌝ }
     ensures { λ r. ⌜ r ≡ cond (ltb level n) (getD (now (widths .entry)) level 0) 2 ⌝ }
 {

@@ -1,23 +1,15 @@
--- `matrices::width` meets its contract: each answer is the case that the test leads to.
+-- `matrices::width` meets its contract, by that of `diagram::width`.
 use borrow.Author.Needs.{needs}
-use borrow.Author.Tests.{lt-ltb, le-ltb}
 use Rattle.diagram.specs.Diagram.{width}
 use Rattle.blocks.proofs.matrices.width.Statement.{statement}
 use Rattle.blocks.proofs.matrices.width.Tie as tie
 
-mul-result : tie.Need-mul-result
-mul-result c = search needs
-
-array-read-result : tie.Need-array-read-result
-array-read-result c = search needs
+width-requires : tie.Need-width-requires
+width-requires c κs = search needs
 
 returns : tie.Need-returns
 unfolding width
-returns c = simp (lt-ltb _ _ (c .if1 .taken))
-
-returns-2 : tie.Need-returns-2
-unfolding width
-returns-2 c = simp (le-ltb _ _ (c .if1 .left))
+returns c = c .width .ensures
 
 pub width-spec : {M : Type 1} → statement M
-width-spec = tie.close (tie.spec mul-result array-read-result returns returns-2)
+width-spec = tie.close (tie.spec width-requires returns)
