@@ -1,14 +1,18 @@
--- Inputs: two joined at a contact, and the number of an input.
+-- A contact's value as a bit; inputs joined at a contact, and the number of an input.
 use Prim.Native.Nat.{ℕ, zero, suc, _+_, _*_, _/_, _%_, _^_, _≤_, _<_}
 use native.Mathlib.Nat.{add-comm}
 use native.Mathlib.Numerals.{add-one}
 use native.Mathlib.Omega.{arith}
-use mathlib.Core.Path.{_≡_, _∙_}
+use mathlib.Core.Path.{_≡_, refl, _∙_}
 use mathlib.Core.Bool.{Bool, true, false, cond}
 use borrow.Author.Tests.{lt-ltb, le-ltb, eq-eqb, ne-eqb}
 use lib.Dec.{ltb}
 use lib.Pow.{shr-shr}
 use Rattle.diagram.specs.Diagram.{bit, Input, inputOf}
+
+pub bit-true : (b : Bool) → bit b ≡ 1 → b ≡ true
+bit-true true e = refl
+bit-true false e = absurd (omega arith)
 
 -- x below contact h, y from there on.
 unfoldable pub join : ℕ → Input → Input → Input

@@ -15,7 +15,7 @@ use Rattle.rules.proofs.Cuts.{size-pos}
 use Rattle.faults.proofs.Live.{lit-down, dark-up, leads, misses}
 use Rattle.faults.proofs.Hits.{Hit, EachOf, no-hit, hit-table}
 use Rattle.faults.proofs.EntryHits.{EntryHit, product-hit}
-use Rattle.faults.proofs.Shown.{Low, High, Shown, low-on, high-on}
+use Rattle.faults.proofs.Shown.{Low, High, Spoils, low-on, high-on}
 use Rattle.faults.proofs.Lifts.{after, top, last, parts, hit-parts, shown-left, shown-right}
 
 module _ (d : Diagram) (reduced : Reduced d) (y : ℕ) where
@@ -50,7 +50,7 @@ module _ (d : Diagram) (reduced : Reduced d) (y : ℕ) where
         (misses d reduced (two a b) left l total .result next (dark-up next _) u v hu hv')
 
   pub gate-shown : (c : Cut) (left l next : ℕ) → l + size c + left ≡ d .contacts → Hit y next (block d c l next .0) →
-      Shown d y c left l next
+      Spoils d y c left l next
   unfolding block levelMatrix
   gate-shown one left l next e h =
       let (_, _, _, _, part) = hit-table Never (λ u v. return (levelEntry d l u v)) _ _ next h in absurd (no-hit (part .hit))

@@ -20,7 +20,7 @@ use Rattle.rules.proofs.BlockDown.{block-down}
 use Rattle.rules.proofs.BlockUp.{block-up}
 use Rattle.faults.proofs.Hits.{Hit, EachOf, hit-append}
 use Rattle.faults.proofs.Routes.{nodeAt, node-more, node-in}
-use Rattle.faults.proofs.Shown.{entryOf, Shown}
+use Rattle.faults.proofs.Shown.{entryOf, Spoils}
 
 -- The line after the gates of a block that is made from line next on.
 abbrev pub after : Diagram → Cut → ℕ → ℕ → ℕ
@@ -86,7 +86,7 @@ module _ (d : Diagram) (ranged : inRange d ≡ true) (y : ℕ) (a b : Cut) (left
         product-up ν _ _ _ _ _ .result (top d a b l next) (parts d a b l next e .2) _ v
         (node-in d x j ranged named l (omega arith)) hv (w, hw, p, q)
 
-  pub shown-left : Shown d y a (size b + left) l next → Shown d y (two a b) left l next
+  pub shown-left : Spoils d y a (size b + left) l next → Spoils d y (two a b) left l next
   shown-left s =
       let (i, hi, z, low) = s .low in
       let (j, hj, x, w, hw, wrong, high) = s .high in
@@ -109,7 +109,7 @@ module _ (d : Diagram) (ranged : inRange d ≡ true) (y : ℕ) (a b : Cut) (left
             );
       }
 
-  pub shown-right : Shown d y b left (l + size a) (after d a l next) → Shown d y (two a b) left l next
+  pub shown-right : Spoils d y b left (l + size a) (after d a l next) → Spoils d y (two a b) left l next
   shown-right s =
       let (i, hi, z, low) = s .low in
       let (j, hj, x, v, hv, wrong, high) = s .high in

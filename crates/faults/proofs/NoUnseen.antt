@@ -21,7 +21,7 @@ use Rattle.rules.proofs.Cuts.{size-cut}
 use Rattle.rules.proofs.Pairs.{wholeEntry, pair}
 use Rattle.rules.proofs.Values.{board-down, board-up}
 use Rattle.faults.proofs.Routes.{nodeAt}
-use Rattle.faults.proofs.Shown.{Low, High, Shown}
+use Rattle.faults.proofs.Shown.{Low, High, Spoils}
 use Rattle.faults.proofs.GatesShown.{gate-shown}
 use Rattle.faults.proofs.RailsShown.{railOf, Branches, branches, rail-shown}
 use Rattle.faults.proofs.OneWay.{gates-down, rails-down, gates-up, rails-up}
@@ -86,7 +86,7 @@ module _ (d : Diagram) (some : 1 ≤ d .contacts) (reduced : Reduced d) where
                 shown-line ν (wholeEntry d j c) (s .low) (s .high)
                 ∙ rw p (high ν (rails-up d x ν (one-way s)) (gates-up d x ν (one-way s)) (s .held)))
 
-    betrayed : Shown d y (cut (d .contacts)) 0 0 (gateLine (d .contacts)) → (b : ℕ) → b ≤ 1 → Betrayed d y b
+    betrayed : Spoils d y (cut (d .contacts)) 0 0 (gateLine (d .contacts)) → (b : ℕ) → b ≤ 1 → Betrayed d y b
     betrayed s zero h = low-betrayed (s .low)
     betrayed s (suc zero) h = high-betrayed (s .high)
     betrayed s (suc (suc b)) h = absurd (omega arith)

@@ -10,6 +10,7 @@ use borrow.Author.Tests.{not-true}
 use Rattle.diagram.specs.declared.Diagram.{Diagram}
 use Rattle.diagram.specs.Diagram.{bit, Input, valueAt}
 use Rattle.diagram.specs.Questions.{inRange}
+use Rattle.diagram.proofs.Inputs.{bit-true}
 use Rattle.diagram.proofs.Paths.{value-bit}
 use Rattle.simulation.specs.Run.{gateOf}
 use Rattle.rules.specs.Board.{boardOf}
@@ -27,10 +28,6 @@ pub record OneWay (d : Diagram) (x : Input) (b : ℕ) (ν : ℕ → ℕ) : Type 
   pub off : (i : ℕ) → i < d .contacts → (ν (3 + 2 * i) ≡ bit (not (x i))) ⊎ (ν (3 + 2 * i) ≡ b)
   pub gates : Gates (λ z g. (ν z ≡ gateOf (g .kind) (ν (g .left)) (ν (g .right))) ⊎ (ν z ≡ b)) (boardOf d)
 
-one-true : (b : Bool) → bit b ≡ 1 → b ≡ true
-one-true true e = refl
-one-true false e = absurd (omega arith)
-
 module _ (d : Diagram) (x : Input) (ν : ℕ → ℕ) where
   module _ (s : OneWay d x 0 ν) where
     pub gates-down : Gates (Down ν) (boardOf d)
@@ -42,8 +39,8 @@ module _ (d : Diagram) (x : Input) (ν : ℕ → ℕ) where
     pub rails-down : RailsDown d x ν
     rails-down =
         record {
-          on = λ i h e. ⊎-elim (λ p. one-true (x i) (sym p ∙ e)) (λ p. absurd (omega arith)) (s .on i h);
-          off = λ i h e. ⊎-elim (λ p. not-true (x i) (one-true (not (x i)) (sym p ∙ e))) (λ p. absurd (omega arith)) (s .off i h);
+          on = λ i h e. ⊎-elim (λ p. bit-true (x i) (sym p ∙ e)) (λ p. absurd (omega arith)) (s .on i h);
+          off = λ i h e. ⊎-elim (λ p. not-true (x i) (bit-true (not (x i)) (sym p ∙ e))) (λ p. absurd (omega arith)) (s .off i h);
         }
 
   module _ (s : OneWay d x 1 ν) where

@@ -17,7 +17,7 @@ use Rattle.rules.specs.declared.Entry.the-variants.{Never, Line}
 use Rattle.rules.specs.Blocks.{Cut, one, two, size, levelEntry, levelMatrix, block}
 use Rattle.rules.proofs.Makes.{ok-return, ok-table}
 use Rattle.faults.proofs.Live.{lit-down}
-use Rattle.faults.proofs.Shown.{entryOf, Shown, low-on, high-on}
+use Rattle.faults.proofs.Shown.{entryOf, Spoils, low-on, high-on}
 use Rattle.faults.proofs.Lifts.{after, shown-left, shown-right}
 
 -- The true rail and the false rail of a contact.
@@ -44,7 +44,7 @@ module _ (d : Diagram) (reduced : Reduced d) where
     elsewhere true = ne
     elsewhere false = λ p. ne (sym p)
 
-    level-shown : (t : Bool) (left next : ℕ) → l + 1 + left ≡ d .contacts → Shown d (railOf l t) one left l next
+    level-shown : (t : Bool) (left next : ℕ) → l + 1 + left ≡ d .contacts → Spoils d (railOf l t) one left l next
     unfolding path block levelMatrix
     level-shown t left next e =
         record {
@@ -70,7 +70,7 @@ module _ (d : Diagram) (reduced : Reduced d) where
 
   module _ (i : ℕ) (t : Bool) (branch : Branches d i) where
     pub rail-shown : (c : Cut) (left l next : ℕ) → l + size c + left ≡ d .contacts → l ≤ i → i < l + size c →
-        Shown d (railOf i t) c left l next
+        Spoils d (railOf i t) c left l next
     rail-shown one left l next e low high =
         let p : i ≡ l = omega arith in
         let (u, hu, ne) = branch in

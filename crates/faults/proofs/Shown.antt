@@ -34,7 +34,8 @@ High d y c left l next =
     × ((ν : ℕ → ℕ) → RailsUp d x ν → EachOf (block d c l) next (Up ν) → ν y ≡ 1 →
     shows ν (entryOf d c l next (nodeAt d x j l) v) ≡ 1)
 
-pub record Shown (d : Diagram) (y : ℕ) (c : Cut) (left l next : ℕ) : Type 0 where
+-- Line y spoils the block, held at either value.
+pub record Spoils (d : Diagram) (y : ℕ) (c : Cut) (left l next : ℕ) : Type 0 where
   pub low : Low d y c l next
   pub high : High d y c left l next
 

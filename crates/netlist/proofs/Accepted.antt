@@ -20,7 +20,7 @@ use Rattle.netlist.specs.declared.wiring.Wiring.the-variants.{Sound, Uns
 use Rattle.netlist.specs.Netlist.{gateLine}
 use Rattle.netlist.specs.Questions.{hasParts, areParts, formOf, formNumber, areGates, arePairs, isSound, wiringNumber, netlistOf, netlistRefusal}
 use Rattle.netlist.proofs.Lists.{length-gates, getD-gates, length-pairs, getD-pairs}
-use Rattle.netlist.proofs.Tests.{gates-at, pairs-at, Bounds, Wired, Shown}
+use Rattle.netlist.proofs.Tests.{gates-at, pairs-at, Bounds, Wired, PairsWired}
 
 -- So many whole parts of a size.
 pub record Parts (size low high : ℕ) (v : List ℕ) : Type 0 where
@@ -117,7 +117,7 @@ pub record Accepted (file : List ℕ) : Type 0 where
   pub sound : isSound (netlistOf (fieldsOf file .items) .contacts) (valueIn (fieldsOf file .items) 1) (valueIn (fieldsOf file .items) 2) ≡ true
   pub bounds : Bounds (netlistOf (fieldsOf file .items))
   pub wired : Wired (netlistOf (fieldsOf file .items))
-  pub shown : Shown (netlistOf (fieldsOf file .items))
+  pub shown : PairsWired (netlistOf (fieldsOf file .items))
 
 passed : (file : List ℕ) → formOf (fieldsOf file) ≡ Formed (getD (valueIn (fieldsOf file .items) 0) 0 0) →
     isSound (getD (valueIn (fieldsOf file .items) 0) 0 0) (valueIn (fieldsOf file .items) 1) (valueIn (fieldsOf file .items) 2) ≡ true →

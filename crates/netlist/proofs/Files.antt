@@ -21,7 +21,7 @@ use Rattle.netlist.specs.Netlist.{Netlist, gateLine, gateAt, pairAt, gat
 use Rattle.netlist.specs.Questions.{isGate, isPair, hasParts, areParts, formOf, isSound, netlistOf, netlistRefusal}
 use Rattle.netlist.proofs.Forms.{formed}
 use Rattle.netlist.proofs.Lists.{length-gates, getD-gates, length-pairs, getD-pairs}
-use Rattle.netlist.proofs.Tests.{on-gate, in-pair, Bounds, Wired, Shown}
+use Rattle.netlist.proofs.Tests.{on-gate, in-pair, Bounds, Wired, PairsWired}
 
 -- What stands past a first part.
 past : (xs rest : List ℕ) (j k : ℕ) → j ≡ length xs + k → getD (xs ++ rest) j 0 ≡ getD rest k 0
@@ -143,7 +143,7 @@ module _ (net : Netlist) (b : Bounds net) where
   pub file-formed : formOf (fieldsOf (fileOf net)) ≡ Formed (net .contacts)
   file-formed = ap formOf (file-fields net) ∙ sym items-formed
 
-  module _ (wired : Wired net) (shown : Shown net) where
+  module _ (wired : Wired net) (shown : PairsWired net) where
     bytes-sound : isSound (net .contacts) (flatMap gateBytes (net .gates)) (flatMap pairBytes (net .pairs)) ≡ true
     unfolding isSound
     bytes-sound =

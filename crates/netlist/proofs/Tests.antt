@@ -81,5 +81,5 @@ abbrev pub Wired : Netlist → Type 0
 Wired net = (g : ℕ) (d : Gate) → g < length (net .gates) → GateOn (gateLine (net .contacts) + g) (getD (net .gates) g d)
 
 -- Every output's lines are in the netlist.
-abbrev pub Shown : Netlist → Type 0
-Shown net = (j : ℕ) (d : Pair) → j < length (net .pairs) → PairIn (lineCount net) (getD (net .pairs) j d)
+abbrev pub PairsWired : Netlist → Type 0
+PairsWired net = (j : ℕ) (d : Pair) → j < length (net .pairs) → PairIn (lineCount net) (getD (net .pairs) j d)

@@ -8,7 +8,7 @@ use Rattle.netlist.specs.declared.Gate.{Gate}
 use Rattle.netlist.specs.declared.Pair.{Pair}
 use Rattle.netlist.specs.Netlist.{Netlist, gateBytes, pairBytes, fileOf}
 use Rattle.netlist.proofs.Files.{length-gate-bytes, length-pair-bytes}
-use Rattle.netlist.proofs.Tests.{Bounds, Wired, Shown}
+use Rattle.netlist.proofs.Tests.{Bounds, Wired, PairsWired}
 
 -- Every element is below 256.
 data Small : List ℕ → Type 0 where
@@ -37,7 +37,7 @@ each f (x ∷ xs) d h = both (h 0 (omega arith)) (each f xs d (λ i l. h (suc i)
 field : (i : Item) {l : List ℕ} → i .tag < 256 → length (i .value) < 65536 → Small (i .value) → Small l → Small (fieldBytes i ++ l)
 field i t n v s = first (i .tag) t (two (length (i .value)) n (both v s))
 
-module _ (net : Netlist) (bounds : Bounds net) (wired : Wired net) (shown : Shown net) where
+module _ (net : Netlist) (bounds : Bounds net) (wired : Wired net) (shown : PairsWired net) where
   gates-small : Small (flatMap gateBytes (net .gates))
   gates-small =
       let other : Gate = record { kind = 0; left = 0; right = 0 } in

@@ -1,11 +1,12 @@
 -- Valuations in which every line obeys what drives it; in one of a diagram's board the pairs show the right codes.
 use Prim.Native.Nat.{ℕ, _+_, _*_, _-_, _≤_, _<_}
-use native.Mathlib.Omega.{arith}
-use mathlib.Core.Path.{_≡_, refl, sym, ap, _∙_}
-use mathlib.Core.Bool.{Bool, true, false, not}
+use mathlib.Core.Path.{_≡_, sym, ap, _∙_}
+use mathlib.Core.Bool.{true, not}
+use borrow.Author.Tests.{not-true}
 use Rattle.diagram.specs.declared.Diagram.{Diagram}
 use Rattle.diagram.specs.Diagram.{bit, Input, valueAt}
 use Rattle.diagram.specs.Questions.{inRange}
+use Rattle.diagram.proofs.Inputs.{bit-true}
 use Rattle.netlist.specs.Netlist.{Netlist}
 use Rattle.simulation.specs.Run.{gateOf}
 use Rattle.rules.specs.Board.{boardOf}
@@ -27,21 +28,13 @@ pub record Model (net : Netlist) (x : Input) (ν : ℕ → ℕ) : Type 0 where
 abbrev pub Modelled : Netlist → Type 0
 Modelled net = (x : Input) → (ν : ℕ → ℕ) × Model net x ν
 
-bit-true : (b : Bool) → bit b ≡ 1 → b ≡ true
-bit-true true e = refl
-bit-true false e = absurd (omega arith)
-
-bit-false : (b : Bool) → bit (not b) ≡ 1 → b ≡ false
-bit-false true e = absurd (omega arith)
-bit-false false e = refl
-
 module _ (d : Diagram) (x : Input) (ν : ℕ → ℕ) (model : Model (boardOf d) x ν) where
   rails-down : RailsDown d x ν
   unfolding boardOf
   rails-down =
       record {
         on = λ i h e. bit-true (x i) (sym (model .on i h) ∙ e);
-        off = λ i h e. bit-false (x i) (sym (model .off i h) ∙ e);
+        off = λ i h e. not-true (x i) (bit-true (not (x i)) (sym (model .off i h) ∙ e));
       }
 
   rails-up : RailsUp d x ν

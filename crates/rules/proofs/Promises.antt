@@ -10,7 +10,7 @@ use Rattle.table.proofs.Encode.{bytes-are}
 use Rattle.table.proofs.SameFile.{same-file}
 use Rattle.diagram.proofs.Unique.{Reduced}
 use Rattle.netlist.proofs.Files.{reads-back, file-determines, file-accepted}
-use Rattle.netlist.proofs.Tests.{Bounds, Wired, Shown}
+use Rattle.netlist.proofs.Tests.{Bounds, Wired, PairsWired}
 use Rattle.simulation.specs.Run.{held}
 use Rattle.rules.specs.Board.{boardOf, tableBoard}
 use Rattle.table.specs.Promises.{Accepted}
@@ -73,7 +73,7 @@ built-files-pass table (bytes, all) =
       few = omega (arith, s .outputs);
     } in
     let wired : Wired net = λ g other h. gates-on d some g other h in
-    let shown : Shown net = λ j other h. let w = pairs-wired d some j other (omega arith) in record { on = w .0; off = w .1 } in
+    let shown : PairsWired net = λ j other h. let w = pairs-wired d some j other (omega arith) in record { on = w .0; off = w .1 } in
     (file-bytes net bounds wired shown, file-accepted net bounds wired shown, reads-back net)
 
 -- The diagram of an accepted table passes questions 5 to 7.

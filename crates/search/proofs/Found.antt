@@ -6,13 +6,10 @@ use mathlib.Core.Path.{_≡_, refl, sym, ap, _∙_}
 use mathlib.Core.Bool.{Bool, true, false}
 use Rattle.fields.specs.Bounded.{any}
 use Rattle.diagram.specs.Diagram.{bit}
+use Rattle.diagram.proofs.Inputs.{bit-true}
 use Rattle.words.specs.Words.{bitOf}
 use Rattle.words.proofs.Bits.{bit-zero}
 use Rattle.faults.proofs.Least.{First, within}
-
-set-true : (b : Bool) → bit b ≡ 1 → b ≡ true
-set-true true e = refl
-set-true false e = absurd (omega arith)
 
 clear-false : (b : Bool) → bit b ≡ 0 → b ≡ false
 clear-false true e = absurd (omega arith)
@@ -38,4 +35,4 @@ module _ (p : ℕ → Bool) (base mask : ℕ) (bits : (k : ℕ) → k < 64 → b
       First p n (base + t)
   found n t seen l e low =
       let below = clear t low (omega arith) in
-      record { below = within p n (base + t) seen below; passes = set-true _ (sym (bits t l) ∙ e); none = below }
+      record { below = within p n (base + t) seen below; passes = bit-true _ (sym (bits t l) ∙ e); none = below }
