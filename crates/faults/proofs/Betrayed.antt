@@ -19,19 +19,20 @@ use Rattle.diagram.proofs.Unique.{Reduced}
 use Rattle.netlist.specs.declared.Hold.{Hold}
 use Rattle.netlist.specs.declared.Pair.{Pair}
 use Rattle.netlist.specs.Netlist.{lineCount}
+use Rattle.netlist.proofs.Tests.{Wired}
 use Rattle.rules.specs.Board.{boardOf, tableBoard}
 use Rattle.table.specs.Promises.{Accepted}
 use Rattle.table.specs.Table.{diagramIn}
 use Rattle.rules.proofs.Codes.{code-same}
-use Rattle.rules.proofs.Held.{shown}
 use Rattle.rules.proofs.Pairs.{pair, pairs-length, pairs-at}
 use Rattle.rules.proofs.Shown.{board-on, board-off}
+use Rattle.rules.proofs.Values.{no-wrong-code}
+use Rattle.rules.proofs.Wired.{board-wired}
 use Rattle.faults.specs.Betrayal.{stuckAt, noCode, betrays, smallestInput, lowestIn}
 use Rattle.faults.specs.Promises.{Shows, ShowsRight}
-use Rattle.faults.proofs.HeldLines.{one-way-run, stuck-run}
+use Rattle.faults.proofs.HeldLines.{one-way-run, held-shows}
 use Rattle.faults.proofs.Least.{First, least-first}
 use Rattle.faults.proofs.NoUnseen.{no-unseen}
-use Rattle.faults.proofs.OneWay.{no-wrong-code}
 
 -- A board's pair by its lines' values.
 module _ (d : Diagram) (vs : List ℕ) (j : ℕ) (h : j < d .outputs) where
@@ -56,11 +57,14 @@ module _ (table : List ℕ) (yes! : Accepted table) (y b : ℕ) (low : 2 ≤ y) 
   some : 1 ≤ d .contacts
   some = accepted table (yes! .1) .sized .contacts .0
 
+  wired : Wired (boardOf d)
+  wired = board-wired d some
+
   -- Each pair is the right code, and then a code, or it is the held value twice, and then no code.
   pair-is : (a j : ℕ) → j < d .outputs →
       (ShowsRight table (inputOf a) (values a) j × (noCode (boardOf d) (values a) j ≡ false))
       ⊎ (Shows (boardOf d) (values a) j b b × (noCode (boardOf d) (values a) j ≡ true))
-  unfolding boardOf stuckAt
+  unfolding stuckAt
   pair-is a j h =
       let ranged = accepted table (yes! .1) .ranged in
       let x = inputOf a in
@@ -68,8 +72,7 @@ module _ (table : List ℕ) (yes! : Accepted table) (y b : ℕ) (low : 2 ≤ y) 
       ⊎-elim
       (λ (p, q). inl (shows-by d _ j h _ _ p q, no-code-by d _ j h ∙ ne-eqb _ _ (λ e. let z = sym p ∙ e ∙ q in omega arith)))
       (λ (p, q). inr (shows-by d _ j h b b p q, no-code-by d _ j h ∙ eq-eqb _ _ (p ∙ sym q)))
-      (no-wrong-code d ranged some x b (shown d some x (hold ∷ [])) bound
-      (one-way-run d some x b bound (hold ∷ []) (refl, tt)) j h)
+      (no-wrong-code d ranged some x b _ bound (one-way-run (boardOf d) wired x b bound (hold ∷ []) (refl, tt)) j h)
 
   right-where : (a j : ℕ) → j < d .outputs → noCode (boardOf d) (values a) j ≡ false → ShowsRight table (inputOf a) (values a) j
   right-where a j h e =
@@ -83,7 +86,8 @@ module _ (table : List ℕ) (yes! : Accepted table) (y b : ℕ) (low : 2 ≤ y) 
       let reduced : Reduced d = record { ranged = a .ranged; differing = a .differing; counted = a .counted } in
       let (x, j, h, shows) = no-unseen d some reduced (a .forking) y b low high bound in
       let (n, below, agrees) = inputNumber x (d .contacts) in
-      let (on, off) = shows _ (stuck-run d some x y b bound low high) in
+      let run = one-way-run (boardOf d) wired x b bound (hold ∷ []) (refl, tt) in
+      let (on, off) = shows _ run (held-shows (boardOf d) wired x b bound y low high) in
       (n, below, j, h, rw (code-same (inputOf n) x (d .contacts) agrees) (shows-by d _ j h b b on off))
 
   pub betrayed : any (2 ^ d .contacts) (betrays (boardOf d) hold) ≡ true

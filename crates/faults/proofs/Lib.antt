@@ -8,8 +8,6 @@ pub mod Shown
 pub mod Lifts
 pub mod GatesShown
 pub mod RailsShown
-pub mod OneWay
-pub mod Stuck
 pub mod NoUnseen
 pub mod Least
 pub mod HeldLines

@@ -58,7 +58,7 @@ module _ (d : Diagram) (ranged : inRange d ≡ true) (y : ℕ) (a b : Cut) (left
     (total : l + size (two a b) + left ≡ d .contacts) where
   module _ (x : Input) (j : ℕ) (named : j < d .outputs) (ν : ℕ → ℕ) where
     -- If the entry on the path shows 1, so do the entries on the path in the two parts.
-    down : RailsDown d x ν → EachOf (block d (two a b) l) next (Down ν) →
+    down : RailsDown (d .contacts) x ν → EachOf (block d (two a b) l) next (Down ν) →
         shows ν (entryOf d (two a b) l next (nodeAt d x j l) (nodeAt d x j (l + size (two a b)))) ≡ 1 →
         (shows ν (entryOf d a l next (nodeAt d x j l) (nodeAt d x j (l + size a))) ≡ 1)
         × (shows ν

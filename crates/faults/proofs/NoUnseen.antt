@@ -19,19 +19,18 @@ use Rattle.rules.specs.Board.{lineOf, wholeBlock, boardOf}
 use Rattle.rules.proofs.Valuations.{shows}
 use Rattle.rules.proofs.Cuts.{size-cut}
 use Rattle.rules.proofs.Pairs.{wholeEntry, pair}
+use Rattle.rules.proofs.Models.{OneWay, gates-down, rails-down, gates-up, rails-up}
 use Rattle.rules.proofs.Values.{board-down, board-up}
 use Rattle.faults.proofs.Routes.{nodeAt}
 use Rattle.faults.proofs.Shown.{Low, High, Spoils}
 use Rattle.faults.proofs.GatesShown.{gate-shown}
 use Rattle.faults.proofs.RailsShown.{railOf, Branches, branches, rail-shown}
-use Rattle.faults.proofs.OneWay.{gates-down, rails-down, gates-up, rails-up}
-use Rattle.faults.proofs.Stuck.{Stuck, one-way}
 
--- Line y held at b is betrayed: at some input some pair shows b twice.
+-- Line y held at b is betrayed: at some input some pair shows b twice, whatever other lines are held at b.
 abbrev pub Betrayed : Diagram → ℕ → ℕ → Type 0
 Betrayed d y b =
     (x : Input) × (j : ℕ) × (j < d .outputs)
-    × ((ν : ℕ → ℕ) → Stuck d x y b ν → (ν (pair d j .on) ≡ b) × (ν (pair d j .off) ≡ b))
+    × ((ν : ℕ → ℕ) → OneWay (boardOf d) x b ν → ν y ≡ b → (ν (pair d j .on) ≡ b) × (ν (pair d j .off) ≡ b))
 
 shown-line : (ν : ℕ → ℕ) (e : Entry) → ν 0 ≡ 0 → ν 1 ≡ 1 → ν (lineOf e) ≡ shows ν e
 shown-line ν Never low high = low
@@ -51,17 +50,17 @@ module _ (d : Diagram) (some : 1 ≤ d .contacts) (reduced : Reduced d) where
         end : nodeAt d x j (0 + size (cut (d .contacts))) ≡ valueAt d x j
         end = rw (size-cut (d .contacts) some, zero-add (d .contacts))
 
-        go : (ν : ℕ → ℕ) → Stuck d x y 0 ν → (ν (pair d j .on) ≡ 0) × (ν (pair d j .off) ≡ 0)
-        go ν s = (dark 1 (leads .0), dark 0 (leads .1))
+        go : (ν : ℕ → ℕ) → OneWay (boardOf d) x 0 ν → ν y ≡ 0 → (ν (pair d j .on) ≡ 0) × (ν (pair d j .off) ≡ 0)
+        go ν s o = (dark 1 (leads .0), dark 0 (leads .1))
           where
             leads : (ν (pair d j .on) ≡ 1 → valueAt d x j ≡ 1) × (ν (pair d j .off) ≡ 1 → valueAt d x j ≡ 0)
-            leads = board-down d (reduced .ranged) some x ν (gates-down d x ν (one-way s)) (rails-down d x ν (one-way s)) (s .low) j hj
+            leads = board-down d (reduced .ranged) some x ν s j hj
 
             dark : (v : ℕ) → (ν (lineOf (wholeEntry d j v)) ≡ 1 → valueAt d x j ≡ v) → ν (lineOf (wholeEntry d j v)) ≡ 0
             dark v to =
                 let e = wholeEntry d j v in
                 let ne : ν (lineOf e) ≡ 1 → ⊥ = λ p.
-                low ν (rails-down d x ν (one-way s)) (gates-down d x ν (one-way s)) (s .held)
+                low ν (rails-down x s) (gates-down x s) o
                 (rw (end ∙ to p) (sym (shown-line ν e (s .low) (s .high)) ∙ p)) in
                 omega (arith, s .bits (lineOf e))
 
@@ -72,11 +71,11 @@ module _ (d : Diagram) (some : 1 ≤ d .contacts) (reduced : Reduced d) where
         bit-v : v < 2
         bit-v = rw (size-cut (d .contacts) some, zero-add (d .contacts), width-last d) at hv
 
-        go : (ν : ℕ → ℕ) → Stuck d x y 1 ν → (ν (pair d j .on) ≡ 1) × (ν (pair d j .off) ≡ 1)
-        go ν s = (lit 1 (omega arith) (leads .0), lit 0 (omega arith) (leads .1))
+        go : (ν : ℕ → ℕ) → OneWay (boardOf d) x 1 ν → ν y ≡ 1 → (ν (pair d j .on) ≡ 1) × (ν (pair d j .off) ≡ 1)
+        go ν s o = (lit 1 (omega arith) (leads .0), lit 0 (omega arith) (leads .1))
           where
             leads : (valueAt d x j ≡ 1 → ν (pair d j .on) ≡ 1) × (valueAt d x j ≡ 0 → ν (pair d j .off) ≡ 1)
-            leads = board-up d (reduced .ranged) some x ν (gates-up d x ν (one-way s)) (rails-up d x ν (one-way s)) (s .high) j hj
+            leads = board-up d (reduced .ranged) some x ν s j hj
 
             lit : (c : ℕ) → c < 2 → (valueAt d x j ≡ c → ν (lineOf (wholeEntry d j c)) ≡ 1) →
                 ν (lineOf (wholeEntry d j c)) ≡ 1
@@ -84,7 +83,7 @@ module _ (d : Diagram) (some : 1 ≤ d .contacts) (reduced : Reduced d) where
                 by-cases (ℕ-discrete (valueAt d x j) c) from (λ ne.
                 let p = remaining (valueAt d x j) v c (value-bit d (reduced .ranged) x j hj) bit-v hc wrong ne in
                 shown-line ν (wholeEntry d j c) (s .low) (s .high)
-                ∙ rw p (high ν (rails-up d x ν (one-way s)) (gates-up d x ν (one-way s)) (s .held)))
+                ∙ rw p (high ν (rails-up x s) (gates-up x s) o))
 
     betrayed : Spoils d y (cut (d .contacts)) 0 0 (gateLine (d .contacts)) → (b : ℕ) → b ≤ 1 → Betrayed d y b
     betrayed s zero h = low-betrayed (s .low)

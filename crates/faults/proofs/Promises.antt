@@ -7,24 +7,22 @@ use Rattle.simulation.specs.Service.{runOf}
 use Rattle.netlist.proofs.Files.{reads-back}
 use Rattle.rules.specs.Board.{boardOf, tableBoard}
 use Rattle.table.specs.Table.{diagramIn}
-use Rattle.rules.proofs.Held.{shown}
+use Rattle.rules.proofs.Values.{no-wrong-code}
+use Rattle.rules.proofs.Wired.{board-wired}
 use Rattle.faults.specs.Promises.{NoWrongCode, NoUnseenLine, RunWrites}
 use Rattle.faults.proofs.Betrayed.{shows-by, seen}
 use Rattle.faults.proofs.HeldLines.{all-holds, one-way-run}
-use Rattle.faults.proofs.OneWay.{no-wrong-code}
 
 pub no-wrong-lines : NoWrongCode
-unfolding boardOf
 no-wrong-lines table (bytes, all) b bound holds (ordered, way) x j h =
     let d = diagramIn table in
     let a = accepted table all in
     let some = a .sized .contacts .0 in
-    let run = one-way-run d some x b bound (holdsOf holds) (all-holds (λ v. v ≡ b) holds way) in
+    let run = one-way-run (boardOf d) (board-wired d some) x b bound (holdsOf holds) (all-holds (λ v. v ≡ b) holds way) in
     ⊎-elim (λ (p, q). inl (shows-by d _ j h _ _ p q)) (λ (p, q). inr (shows-by d _ j h _ _ p q))
-    (no-wrong-code d (a .ranged) some x b (shown d some x (holdsOf holds)) bound run j h)
+    (no-wrong-code d (a .ranged) some x b _ bound run j h)
 
 pub no-unseen-line : NoUnseenLine
-unfolding boardOf
 no-unseen-line table all y b low high bound = seen table all y b low high bound
 
 pub run-writes : RunWrites

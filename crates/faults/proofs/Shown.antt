@@ -22,7 +22,7 @@ entryOf d c l next u v = entryAt (block d c l next .1) u v
 abbrev pub Low : Diagram → ℕ → Cut → ℕ → ℕ → Type 0
 Low d y c l next =
     (j : ℕ) × (j < d .outputs) × (x : Input)
-    × ((ν : ℕ → ℕ) → RailsDown d x ν → EachOf (block d c l) next (Down ν) → ν y ≡ 0 →
+    × ((ν : ℕ → ℕ) → RailsDown (d .contacts) x ν → EachOf (block d c l) next (Down ν) → ν y ≡ 0 →
     shows ν (entryOf d c l next (nodeAt d x j l) (nodeAt d x j (l + size c))) ≡ 1 → ⊥)
 
 -- Line y held at 1: at some input an entry shows 1 that leaves the path from some output for a node v, from which the levels that
@@ -31,7 +31,7 @@ abbrev pub High : Diagram → ℕ → Cut → ℕ → ℕ → ℕ → Type 0
 High d y c left l next =
     (j : ℕ) × (j < d .outputs) × (x : Input) × (v : ℕ) × (v < width d (l + size c))
     × (path d x left (l + size c) v ≡ nodeAt d x j (d .contacts) → ⊥)
-    × ((ν : ℕ → ℕ) → RailsUp d x ν → EachOf (block d c l) next (Up ν) → ν y ≡ 1 →
+    × ((ν : ℕ → ℕ) → RailsUp (d .contacts) x ν → EachOf (block d c l) next (Up ν) → ν y ≡ 1 →
     shows ν (entryOf d c l next (nodeAt d x j l) v) ≡ 1)
 
 -- Line y spoils the block, held at either value.
@@ -43,7 +43,7 @@ pub record Spoils (d : Diagram) (y : ℕ) (c : Cut) (left l next : ℕ) : Type 0
 module _ (d : Diagram) (reduced : Reduced d) (y : ℕ) (c : Cut) (l next u v : ℕ) (above : l < d .contacts) (hu : u < width d l) where
   -- It does not show 1 where the path from u goes through w, k levels on, and some input leads through w to v.
   pub low-on : (k m w : ℕ) → l + k + m ≡ l + size c → (s t : Input) → path d s k l u ≡ w → path d t m (l + k) w ≡ v →
-      ((x : Input) (ν : ℕ → ℕ) → path d x k l u ≡ w → RailsDown d x ν → EachOf (block d c l) next (Down ν) → ν y ≡ 0 →
+      ((x : Input) (ν : ℕ → ℕ) → path d x k l u ≡ w → RailsDown (d .contacts) x ν → EachOf (block d c l) next (Down ν) → ν y ≡ 0 →
       shows ν (entryOf d c l next u v) ≡ 1 → ⊥) →
       Low d y c l next
   low-on k m w e s t p q spoils = go (route d (reduced .counted) k l u above hu s t)

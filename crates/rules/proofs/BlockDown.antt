@@ -16,7 +16,7 @@ use Rattle.rules.proofs.Makes.{Ok, ok-return, ok-bind, ok-weaken, ok-ta
 use Rattle.rules.proofs.Valuations.{Down, shows, RailsDown}
 use Rattle.rules.proofs.Products.{product-down}
 
-module _ (d : Diagram) (x : Input) (ν : ℕ → ℕ) (rails : RailsDown d x ν) where
+module _ (d : Diagram) (x : Input) (ν : ℕ → ℕ) (rails : RailsDown (d .contacts) x ν) where
   level-down : (l u v : ℕ) → l < d .contacts → shows ν (levelEntry d l u v) ≡ 1 → edge d l u (x l) ≡ v
   level-down l u v h s = go (eqb (edge d l u true) v) (eqb (edge d l u false) v) refl refl s
     where

@@ -15,7 +15,7 @@ use Rattle.rules.proofs.Makes.{Ok, ok-return, ok-bind, ok-weaken, ok-ta
 use Rattle.rules.proofs.Valuations.{Up, shows, RailsUp}
 use Rattle.rules.proofs.Products.{product-up}
 
-module _ (d : Diagram) (ranged : inRange d ≡ true) (x : Input) (ν : ℕ → ℕ) (rails : RailsUp d x ν) where
+module _ (d : Diagram) (ranged : inRange d ≡ true) (x : Input) (ν : ℕ → ℕ) (rails : RailsUp (d .contacts) x ν) where
   level-up : (l u v : ℕ) → l < d .contacts → edge d l u (x l) ≡ v → shows ν (levelEntry d l u v) ≡ 1
   level-up l u v h s = go (eqb (edge d l u true) v) (eqb (edge d l u false) v) (x l) refl refl refl s
     where

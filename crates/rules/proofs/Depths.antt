@@ -15,7 +15,7 @@ use Rattle.rules.specs.Board.{boardOf, depthsOf, largest, depthOf}
 use Rattle.rules.specs.Formulas.{widest, depthMost}
 use Rattle.rules.proofs.Makes.{anyGate, Each}
 use Rattle.rules.proofs.Formulas.{widest-least, log2-least}
-use Rattle.rules.proofs.Lays.{Wired}
+use Rattle.rules.proofs.Lays.{LaidGate}
 use Rattle.simulation.proofs.Obeys.{rail-obeys, gate-obeys}
 use Rattle.rules.proofs.Wired.{board-lays, gates-wired}
 
@@ -60,7 +60,7 @@ largest-most [] e h = omega arith
 largest-most (x ∷ xs) e h = omega (arith, h 0 (omega arith), largest-most xs e (λ i l. h (suc i) (omega arith)))
 
 module _ (d : Diagram) (some : 1 ≤ d .contacts) where
-  gates-depth : Each (Wired (depthAt (boardOf d)) (depthMost d)) (gateLine (d .contacts)) (boardOf d .gates)
+  gates-depth : Each (LaidGate (depthAt (boardOf d)) (depthMost d)) (gateLine (d .contacts)) (boardOf d .gates)
   unfolding boardOf
   gates-depth =
       board-lays d some (depthAt (boardOf d)) (rail-depth (boardOf d)) (record {

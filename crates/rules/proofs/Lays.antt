@@ -23,7 +23,7 @@ abbrev pub Rises : (ℕ → ℕ) → ℕ → Gate → Type 0
 Rises δ x g = δ x ≤ suc (max (δ (g .left)) (δ (g .right)))
 
 -- A gate's kind, that its sources lie below its own line, and its depth.
-pub record Wired (δ : ℕ → ℕ) (most x : ℕ) (g : Gate) : Type 0 where
+pub record LaidGate (δ : ℕ → ℕ) (most x : ℕ) (g : Gate) : Type 0 where
   pub kind : g .kind ≤ 1
   pub left : (2 ≤ g .left) × (g .left < x)
   pub right : (2 ≤ g .right) × (g .right < x)
@@ -43,7 +43,7 @@ each-join {P} {next} a b ea eb = record { has = λ i h. go i (omega (arith, leng
 -- If the gates that m makes from line next on rise, they are wired, and Q holds of the line after them and of the result.
 pub record Lays (δ : ℕ → ℕ) (most : ℕ) {A : Type 0} (m : Make A) (next : ℕ) (Q : ℕ → A → Type 0) : Type 0 where
   pub laid : Each (Rises δ) next (m next .0) →
-      Each (Wired δ most) next (m next .0) × Q (next + length (m next .0)) (m next .1)
+      Each (LaidGate δ most) next (m next .0) × Q (next + length (m next .0)) (m next .1)
 
 module _ {δ : ℕ → ℕ} {most : ℕ} {A : Type 0} {next : ℕ} {Q : ℕ → A → Type 0} where
   pub lays-return : {a : A} → Q next a → Lays δ most (return a) next Q

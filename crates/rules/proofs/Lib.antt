@@ -1,5 +1,7 @@
 pub mod Makes
+pub mod Codes
 pub mod Valuations
+pub mod Models
 pub mod Cuts
 pub mod Trees
 pub mod Terms
@@ -8,8 +10,6 @@ pub mod BlockDown
 pub mod BlockUp
 pub mod Pairs
 pub mod Values
-pub mod Models
-pub mod Injective
 pub mod Heights
 pub mod Formulas
 pub mod Every
@@ -20,8 +20,8 @@ pub mod Lays
 pub mod Lines
 pub mod Wired
 pub mod Depths
-pub mod Codes
 pub mod Held
+pub mod Injective
 pub mod Shown
 pub mod Halves
 pub mod FileBytes

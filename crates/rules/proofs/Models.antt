@@ -1,55 +1,100 @@
--- Valuations in which every line obeys what drives it; in one of a diagram's board the pairs show the right codes.
+-- Valuations of a netlist's lines: what each line shows of what drives it.
 use Prim.Native.Nat.{ℕ, _+_, _*_, _-_, _≤_, _<_}
+use native.Mathlib.Decide.{decLt}
+use native.Mathlib.Omega.{arith}
 use mathlib.Core.Path.{_≡_, sym, ap, _∙_}
-use mathlib.Core.Bool.{true, not}
+use mathlib.Core.Bool.{Bool, not}
+use mathlib.Core.List.{List}
+use mathlib.Core.Logic.{_⊎_, inl, ⊎-elim, by-cases}
 use borrow.Author.Tests.{not-true}
-use Rattle.diagram.specs.declared.Diagram.{Diagram}
-use Rattle.diagram.specs.Diagram.{bit, Input, valueAt}
-use Rattle.diagram.specs.Questions.{inRange}
+use lib.ListN.{getD}
+use Rattle.diagram.specs.Diagram.{bit, Input}
 use Rattle.diagram.proofs.Inputs.{bit-true}
-use Rattle.netlist.specs.Netlist.{Netlist}
+use Rattle.netlist.specs.declared.Gate.{Gate}
+use Rattle.netlist.specs.Netlist.{Netlist, gateLine, lineCount}
 use Rattle.simulation.specs.Run.{gateOf}
-use Rattle.rules.specs.Board.{boardOf}
-use Rattle.rules.proofs.Makes.{each-weaken}
-use Rattle.rules.proofs.Valuations.{RailsDown, RailsUp, made-down, made-up}
-use Rattle.rules.proofs.Pairs.{pair}
-use Rattle.rules.proofs.Values.{Gates, board-right}
+use Rattle.rules.specs.Code.{codeRails}
+use Rattle.rules.proofs.Makes.{Each, each-weaken}
+use Rattle.rules.proofs.Codes.{code-on, code-off}
+use Rattle.rules.proofs.Valuations.{Down, Up, RailsDown, RailsUp, low-down, high-up, made-down, made-up}
 
--- The constants, the rails of an input, and gates with nothing held.
-pub record Model (net : Netlist) (x : Input) (ν : ℕ → ℕ) : Type 0 where
+-- Every gate of a netlist has P at its line.
+abbrev pub Gates : (ℕ → Gate → Type 0) → Netlist → Type 0
+Gates P net = Each P (gateLine (net .contacts)) (net .gates)
+
+-- The constants, bits, and at each line past the constants S of what its driver makes.
+pub record Follows (net : Netlist) (rails : List ℕ) (ν : ℕ → ℕ) (S : ℕ → ℕ → Type 0) : Type 0 where
   pub low : ν 0 ≡ 0
   pub high : ν 1 ≡ 1
   pub bits : (y : ℕ) → ν y ≤ 1
-  pub on : (i : ℕ) → i < net .contacts → ν (2 + 2 * i) ≡ bit (x i)
-  pub off : (i : ℕ) → i < net .contacts → ν (3 + 2 * i) ≡ bit (not (x i))
-  pub gates : Gates (λ y g. ν y ≡ gateOf (g .kind) (ν (g .left)) (ν (g .right))) net
+  pub rail : (i : ℕ) → i < 2 * net .contacts → S (2 + i) (getD rails i 0)
+  pub gates : Gates (λ y g. S y (gateOf (g .kind) (ν (g .left)) (ν (g .right)))) net
 
--- Every input has one.
-abbrev pub Modelled : Netlist → Type 0
-Modelled net = (x : Input) → (ν : ℕ → ℕ) × Model net x ν
+-- At a code input with nothing held.
+abbrev pub Model : Netlist → Input → (ℕ → ℕ) → Type 0
+Model net x ν = Follows net (codeRails (net .contacts) x) ν (λ y made. ν y ≡ made)
 
-module _ (d : Diagram) (x : Input) (ν : ℕ → ℕ) (model : Model (boardOf d) x ν) where
-  rails-down : RailsDown d x ν
-  unfolding boardOf
-  rails-down =
+-- At a code input with some lines held at b.
+abbrev pub OneWay : Netlist → Input → ℕ → (ℕ → ℕ) → Type 0
+OneWay net x b ν = Follows net (codeRails (net .contacts) x) ν (λ y made. (ν y ≡ made) ⊎ (ν y ≡ b))
+
+module _ {net : Netlist} {rails : List ℕ} {ν : ℕ → ℕ} {S : ℕ → ℕ → Type 0} where
+  pub follows-weaken : {R : ℕ → ℕ → Type 0} → ((y made : ℕ) → S y made → R y made) → Follows net rails ν S → Follows net rails ν R
+  follows-weaken k f =
       record {
-        on = λ i h e. bit-true (x i) (sym (model .on i h) ∙ e);
-        off = λ i h e. not-true (x i) (bit-true (not (x i)) (sym (model .off i h) ∙ e));
+        low = f .low;
+        high = f .high;
+        bits = f .bits;
+        rail = λ i h. k _ _ (f .rail i h);
+        gates = each-weaken (λ y g. k _ _) (f .gates);
       }
 
-  rails-up : RailsUp d x ν
-  unfolding boardOf
-  rails-up =
-      record {
-        on = λ i h e. model .on i h ∙ ap bit e;
-        off = λ i h e. model .off i h ∙ ap (λ b. bit (not b)) e;
-      }
+  pub follows-line : Follows net rails ν S → (y : ℕ) → 2 ≤ y → y < lineCount net → (made : ℕ) × S y made
+  follows-line f y low high = by-cases (decLt y (gateLine (net .contacts))) rail gate
+    where
+      rail : y < gateLine (net .contacts) → (made : ℕ) × S y made
+      rail l = let place : 2 + (y - 2) ≡ y = omega arith in (_, rw place at (f .rail (y - 2) (omega arith)))
 
-  pub model-right : inRange d ≡ true → 1 ≤ d .contacts → (j : ℕ) → j < d .outputs →
-      (ν (pair d j .on) ≡ valueAt d x j) × (ν (pair d j .off) ≡ 1 - valueAt d x j)
-  model-right ranged some =
-      let bits = model .bits in
-      board-right d ranged some x ν
-      (each-weaken (λ y g. made-down ν y g (bits (g .left)) (bits (g .right))) (model .gates))
-      (each-weaken (λ y g. made-up ν y g (bits (g .left)) (bits (g .right))) (model .gates))
-      rails-down rails-up (model .low) (model .high) bits
+      gate : (y < gateLine (net .contacts) → ⊥) → (made : ℕ) × S y made
+      gate n =
+          let place : gateLine (net .contacts) + (y - gateLine (net .contacts)) ≡ y = omega arith in
+          (_, rw place at (f .gates .has (y - gateLine (net .contacts)) (omega arith)))
+
+module _ {net : Netlist} (x : Input) {ν : ℕ → ℕ} where
+  pub one-way : (b : ℕ) → Model net x ν → OneWay net x b ν
+  one-way b = follows-weaken (λ y made. inl)
+
+  module _ {S : ℕ → ℕ → Type 0} (f : Follows net (codeRails (net .contacts) x) ν S) (i : ℕ) (h : i < net .contacts) where
+    on : S (2 + 2 * i) (bit (x i))
+    on = rw (code-on x (net .contacts) i h) at (f .rail (2 * i) (omega arith))
+
+    off : S (3 + 2 * i) (bit (not (x i)))
+    off =
+        let line : 2 + (2 * i + 1) ≡ 3 + 2 * i = omega arith in
+        rw (line, code-off x (net .contacts) i h) at (f .rail (2 * i + 1) (omega arith))
+
+  -- With lines held at 0 every line that shows 1 is justified.
+  module _ (s : OneWay net x 0 ν) where
+    pub gates-down : Gates (Down ν) net
+    gates-down =
+        each-weaken (λ y g. ⊎-elim (made-down ν y g (s .bits (g .left)) (s .bits (g .right))) (low-down ν y g)) (s .gates)
+
+    pub rails-down : RailsDown (net .contacts) x ν
+    rails-down =
+        record {
+          on = λ i h e. ⊎-elim (λ p. bit-true (x i) (sym p ∙ e)) (λ p. absurd (omega arith)) (on s i h);
+          off = λ i h e. ⊎-elim (λ p. not-true (x i) (bit-true (not (x i)) (sym p ∙ e))) (λ p. absurd (omega arith)) (off s i h);
+        }
+
+  -- With lines held at 1 every line shows 1 that its sources would make show 1.
+  module _ (s : OneWay net x 1 ν) where
+    pub gates-up : Gates (Up ν) net
+    gates-up =
+        each-weaken (λ y g. ⊎-elim (made-up ν y g (s .bits (g .left)) (s .bits (g .right))) (high-up ν y g)) (s .gates)
+
+    pub rails-up : RailsUp (net .contacts) x ν
+    rails-up =
+        record {
+          on = λ i h e. ⊎-elim (λ p. p ∙ ap bit e) (λ p. p) (on s i h);
+          off = λ i h e. ⊎-elim (λ p. p ∙ ap (λ (t : Bool). bit (not t)) e) (λ p. p) (off s i h);
+        }

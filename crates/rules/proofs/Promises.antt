@@ -1,17 +1,14 @@
 -- Demand 2.
-use Prim.Native.Nat.{ℕ, _≤_}
+use Prim.Native.Nat.{ℕ}
 use native.Mathlib.Omega.{arith}
 use mathlib.Core.Path.{sym, _∙_}
-use mathlib.Core.List.{List, []}
-use Rattle.diagram.specs.declared.Diagram.{Diagram}
-use Rattle.diagram.specs.Diagram.{Input}
+use mathlib.Core.List.{List}
 use Rattle.table.proofs.Accepted.{accepted}
 use Rattle.table.proofs.Encode.{bytes-are}
 use Rattle.table.proofs.SameFile.{same-file}
 use Rattle.diagram.proofs.Unique.{Reduced}
 use Rattle.netlist.proofs.Files.{reads-back, file-determines, file-accepted}
-use Rattle.netlist.proofs.Tests.{Bounds, Wired, PairsWired}
-use Rattle.simulation.specs.Run.{held}
+use Rattle.netlist.proofs.Tests.{Bounds}
 use Rattle.rules.specs.Board.{boardOf, tableBoard}
 use Rattle.table.specs.Promises.{Accepted}
 use Rattle.rules.specs.Promises.{WithinFormulas, BuiltFilesPass, RightCode, DifferentNetlists}
@@ -19,12 +16,12 @@ use Rattle.table.specs.Table.{diagramIn}
 use Rattle.rules.proofs.Bounds.{gates-within, gates-most, sized-narrow}
 use Rattle.rules.proofs.Depths.{depth-bound}
 use Rattle.rules.proofs.FileBytes.{file-bytes}
-use Rattle.rules.proofs.Held.{shown, shown-low, shown-high, shown-bits, shown-on, shown-off, shown-gates}
+use Rattle.rules.proofs.Held.{run-model}
 use Rattle.rules.proofs.Injective.{same-contacts, same-outputs, injective}
-use Rattle.rules.proofs.Models.{Model, model-right}
 use Rattle.rules.proofs.Pairs.{pairs-length}
 use Rattle.rules.proofs.Shown.{board-on, board-off}
-use Rattle.rules.proofs.Wired.{gates-on, pairs-wired}
+use Rattle.rules.proofs.Values.{model-right}
+use Rattle.rules.proofs.Wired.{board-wired, pairs-wired}
 
 pub within-formulas : WithinFormulas
 within-formulas table (bytes, all) =
@@ -33,26 +30,12 @@ within-formulas table (bytes, all) =
     let some = a .sized .contacts .0 in
     (gates-within d some, gates-most d some (a .sized .contacts .1) (sized-narrow d (a .sized)), depth-bound d some)
 
--- With nothing held a run is a model of the board.
-pub run-model : (d : Diagram) (some : 1 ≤ d .contacts) (x : Input) → Model (boardOf d) x (shown d some x [])
-unfolding held boardOf
-run-model d some x =
-    record {
-      low = shown-low d some x [];
-      high = shown-high d some x [];
-      bits = shown-bits d some x [] tt;
-      on = shown-on d some x [];
-      off = shown-off d some x [];
-      gates = shown-gates d some x [];
-    }
-
 pub right-code : RightCode
-unfolding boardOf
 right-code table (bytes, all) x j h =
     let d = diagramIn table in
     let a = accepted table all in
     let some = a .sized .contacts .0 in
-    let right = model-right d x (shown d some x []) (run-model d some x) (a .ranged) some j h in
+    let right = model-right d x _ (run-model (boardOf d) (board-wired d some) x) (a .ranged) some j h in
     (board-on d _ j h ∙ right .0, board-off d _ j h ∙ right .1)
 
 pub built-files-pass : BuiltFilesPass
@@ -72,8 +55,8 @@ built-files-pass table (bytes, all) =
       some = omega (arith, s .outputs);
       few = omega (arith, s .outputs);
     } in
-    let wired : Wired net = λ g other h. gates-on d some g other h in
-    let shown : PairsWired net = λ j other h. let w = pairs-wired d some j other (omega arith) in record { on = w .0; off = w .1 } in
+    let wired = board-wired d some in
+    let shown = pairs-wired d some in
     (file-bytes net bounds wired shown, file-accepted net bounds wired shown, reads-back net)
 
 -- The diagram of an accepted table passes questions 5 to 7.
@@ -88,7 +71,6 @@ different-netlists a b (abytes, ayes) (bbytes, byes) e =
     let f = diagramIn b in
     let one = file-determines (tableBoard a) (tableBoard b) e in
     let some = accepted a ayes .sized .contacts .0 in
-    let same = injective d f one (reduced a (abytes, ayes)) (reduced b (bbytes, byes)) some
-    (λ x. (shown d some x [], run-model d some x)) in
+    let same = injective d f one (reduced a (abytes, ayes)) (reduced b (bbytes, byes)) some in
     sym (bytes-are a (accepted a ayes) abytes) ∙ same-file d f (same-contacts d f one) (same-outputs d f one) same
     ∙ bytes-are b (accepted b byes) bbytes

@@ -6,7 +6,6 @@ use mathlib.Core.Path.{_≡_}
 use mathlib.Core.Bool.{Bool, true, false, cond}
 use mathlib.Core.Logic.{_⊎_, inl, inr}
 use lib.Dec.{eqb}
-use Rattle.diagram.specs.declared.Diagram.{Diagram}
 use Rattle.diagram.specs.Diagram.{Input}
 use Rattle.netlist.specs.declared.Gate.{Gate}
 use Rattle.simulation.specs.Run.{gateOf}
@@ -32,15 +31,15 @@ shows ν Never = 0
 shows ν Always = 1
 shows ν (Line x) = ν x
 
--- A rail shows 1 only where the input's code does.
-pub record RailsDown (d : Diagram) (x : Input) (ν : ℕ → ℕ) : Type 0 where
-  pub on : (i : ℕ) → i < d .contacts → ν (2 + 2 * i) ≡ 1 → x i ≡ true
-  pub off : (i : ℕ) → i < d .contacts → ν (3 + 2 * i) ≡ 1 → x i ≡ false
+-- A rail of n contacts shows 1 only where the input's code does.
+pub record RailsDown (n : ℕ) (x : Input) (ν : ℕ → ℕ) : Type 0 where
+  pub on : (i : ℕ) → i < n → ν (2 + 2 * i) ≡ 1 → x i ≡ true
+  pub off : (i : ℕ) → i < n → ν (3 + 2 * i) ≡ 1 → x i ≡ false
 
--- A rail shows 1 wherever the input's code does.
-pub record RailsUp (d : Diagram) (x : Input) (ν : ℕ → ℕ) : Type 0 where
-  pub on : (i : ℕ) → i < d .contacts → x i ≡ true → ν (2 + 2 * i) ≡ 1
-  pub off : (i : ℕ) → i < d .contacts → x i ≡ false → ν (3 + 2 * i) ≡ 1
+-- A rail of n contacts shows 1 wherever the input's code does.
+pub record RailsUp (n : ℕ) (x : Input) (ν : ℕ → ℕ) : Type 0 where
+  pub on : (i : ℕ) → i < n → x i ≡ true → ν (2 + 2 * i) ≡ 1
+  pub off : (i : ℕ) → i < n → x i ≡ false → ν (3 + 2 * i) ≡ 1
 
 -- An AND or OR of two bits is 1 exactly if they make it so.
 one-made : (b : Bool) (v l r : ℕ) → l ≤ 1 → r ≤ 1 → v ≡ cond b (min l r) (max l r) → v ≡ 1 →

@@ -7,10 +7,8 @@ use mathlib.Core.List.{List, [], _∷_}
 use lib.ListN.{length, getD}
 use Rattle.diagram.specs.declared.Diagram.{Diagram}
 use Rattle.diagram.specs.Diagram.{root}
-use Rattle.netlist.specs.declared.Gate.{Gate}
-use Rattle.netlist.specs.declared.Pair.{Pair}
 use Rattle.netlist.specs.Netlist.{gateLine, lineCount}
-use Rattle.netlist.proofs.Tests.{GateOn}
+use Rattle.netlist.proofs.Tests.{Wired, PairsWired}
 use Rattle.rules.specs.declared.Entry.{Entry}
 use Rattle.rules.specs.Blocks.{cut, entryAt}
 use Rattle.rules.specs.Board.{lineOf, wholeBlock, boardOf}
@@ -18,10 +16,10 @@ use Rattle.rules.specs.Formulas.{widest, log2up, depthMost}
 use Rattle.rules.proofs.Makes.{anyGate, Each}
 use Rattle.rules.proofs.Cuts.{size-cut}
 use Rattle.rules.proofs.Heights.{height, height-cut}
-use Rattle.rules.proofs.Pairs.{pairs-at}
+use Rattle.rules.proofs.Pairs.{pairs-length, pairs-at}
 use Rattle.rules.proofs.Formulas.{widest-at, log2-enough}
 use Rattle.rules.proofs.Entries.{OfLine, never, always, line}
-use Rattle.rules.proofs.Lays.{Lies, Rises, Wired}
+use Rattle.rules.proofs.Lays.{Lies, Rises, LaidGate}
 use Rattle.rules.proofs.Lines.{Table, table-on, table-at, block-lays}
 
 line-below : {δ : ℕ → ℕ} {e next : ℕ} {t : Entry} → 2 ≤ next → OfLine (Lies δ e next) t → lineOf t < next
@@ -38,7 +36,7 @@ module _ (d : Diagram) (some : 1 ≤ d .contacts) where
   -- For any depths of the lines that are 0 at the rails and rise by one at most from gate to gate.
   pub board-lays : (δ : ℕ → ℕ) → ((x : ℕ) → x < gateLine (d .contacts) → δ x ≡ 0) →
       Each (Rises δ) (gateLine (d .contacts)) (boardOf d .gates) →
-      Each (Wired δ (depthMost d)) (gateLine (d .contacts)) (boardOf d .gates)
+      Each (LaidGate δ (depthMost d)) (gateLine (d .contacts)) (boardOf d .gates)
       × Table δ (depthMost d) (lineCount (boardOf d)) (wholeBlock d .1)
   unfolding boardOf wholeBlock depthMost
   board-lays δ flat rises =
@@ -50,7 +48,7 @@ module _ (d : Diagram) (some : 1 ≤ d .contacts) where
       (cut n) 0 (gateLine n) (omega (arith, size-cut n some)) (omega arith) deep .laid rises in
       (wired, table-on deep (omega arith) table)
 
-  flat : Each (Wired (λ _. 0) (depthMost d)) (gateLine (d .contacts)) (boardOf d .gates)
+  flat : Each (LaidGate (λ _. 0) (depthMost d)) (gateLine (d .contacts)) (boardOf d .gates)
       × Table (λ _. 0) (depthMost d) (lineCount (boardOf d)) (wholeBlock d .1)
   flat = board-lays (λ _. 0) (λ x h. refl) (record { has = λ i h. omega arith })
 
@@ -59,16 +57,16 @@ module _ (d : Diagram) (some : 1 ≤ d .contacts) where
       (at .kind ≤ 1) × (at .left < gateLine (d .contacts) + g) × (at .right < gateLine (d .contacts) + g)
   gates-wired g h = let w = flat .0 .has g h in omega arith
 
-  pub gates-on : (g : ℕ) (other : Gate) → g < length (boardOf d .gates) →
-      GateOn (gateLine (d .contacts) + g) (getD (boardOf d .gates) g other)
-  gates-on g other h =
+  pub board-wired : Wired (boardOf d)
+  unfolding boardOf
+  board-wired g other h =
       let w = gates-wired g h in
       rw (any-default (boardOf d .gates) g other anyGate h) (record { kind = w .0; left = w .1; right = w .2 })
 
   pub entry-wired : (u v : ℕ) → lineOf (entryAt (wholeBlock d .1) u v) < lineCount (boardOf d)
   entry-wired u v = line-below (omega arith) (table-at (flat .1) u v)
 
-  pub pairs-wired : (j : ℕ) (none : Pair) → j < d .outputs →
-      let pair = getD (boardOf d .pairs) j none in
-      (pair .on < lineCount (boardOf d)) × (pair .off < lineCount (boardOf d))
-  pairs-wired j none h = rw (pairs-at d j none h) (entry-wired (root d j) 1, entry-wired (root d j) 0)
+  pub pairs-wired : PairsWired (boardOf d)
+  pairs-wired j none h =
+      rw (pairs-at d j none (omega (arith, pairs-length d)))
+      (record { on = entry-wired (root d j) 1; off = entry-wired (root d j) 0 })
