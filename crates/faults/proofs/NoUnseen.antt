@@ -9,7 +9,7 @@ use mathlib.Core.Logic.{by-cases}
 use Rattle.diagram.specs.declared.Diagram.{Diagram}
 use Rattle.diagram.specs.Diagram.{bit, Input, path, valueAt}
 use Rattle.diagram.specs.Questions.{branching}
-use Rattle.diagram.proofs.Paths.{place, width-last, value-bit}
+use Rattle.diagram.proofs.Paths.{Branches, branches, place, width-last, value-bit}
 use Rattle.diagram.proofs.Unique.{Reduced}
 use Rattle.netlist.specs.Netlist.{gateLine, lineCount}
 use Rattle.rules.specs.declared.Entry.{Entry}
@@ -24,7 +24,7 @@ use Rattle.rules.proofs.Values.{board-down, board-up}
 use Rattle.faults.proofs.Routes.{nodeAt}
 use Rattle.faults.proofs.Shown.{Low, High, Spoils}
 use Rattle.faults.proofs.GatesShown.{gate-shown}
-use Rattle.faults.proofs.RailsShown.{railOf, Branches, branches, rail-shown}
+use Rattle.faults.proofs.RailsShown.{railOf, rail-shown}
 
 -- Line y held at b is betrayed: at some input some pair shows b twice, whatever other lines are held at b.
 abbrev pub Betrayed : Diagram → ℕ → ℕ → Type 0

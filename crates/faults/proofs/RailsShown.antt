@@ -6,12 +6,10 @@ use native.Mathlib.Omega.{arith}
 use mathlib.Core.Path.{_≡_, refl, sym, _∙_}
 use mathlib.Core.Bool.{Bool, true, false, not}
 use mathlib.Core.Logic.{by-cases}
-use borrow.Author.Tests.{eq-eqb, ne-eqb, eqb-false, not-true}
-use Rattle.fields.proofs.Bounded.{all-at, any-found}
+use borrow.Author.Tests.{eq-eqb, ne-eqb}
 use Rattle.diagram.specs.declared.Diagram.{Diagram}
 use Rattle.diagram.specs.Diagram.{width, edge, path}
-use Rattle.diagram.specs.Questions.{branching}
-use Rattle.diagram.proofs.Paths.{edge-in}
+use Rattle.diagram.proofs.Paths.{Branches, edge-in}
 use Rattle.diagram.proofs.Unique.{Reduced}
 use Rattle.rules.specs.declared.Entry.the-variants.{Never, Line}
 use Rattle.rules.specs.Blocks.{Cut, one, two, size, levelEntry, levelMatrix, block}
@@ -24,15 +22,6 @@ use Rattle.faults.proofs.Lifts.{after, shown-left, shown-right}
 abbrev pub railOf : ℕ → Bool → ℕ
 railOf i true = 2 + 2 * i
 railOf i false = 3 + 2 * i
-
--- A level has a node with different edges.
-abbrev pub Branches : Diagram → ℕ → Type 0
-Branches d l = (u : ℕ) × (u < width d l) × (edge d l u false ≡ edge d l u true → ⊥)
-
-pub branches : (d : Diagram) → branching d ≡ true → (l : ℕ) → l < d .contacts → Branches d l
-unfolding branching
-branches d asked l h =
-    let (u, hu, e) = any-found _ _ (all-at _ _ asked l h) in (u, hu, eqb-false _ _ (not-true _ e))
 
 module _ (d : Diagram) (reduced : Reduced d) where
   module _ (l u : ℕ) (hu : u < width d l) (ne : edge d l u false ≡ edge d l u true → ⊥) where

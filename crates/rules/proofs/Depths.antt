@@ -60,11 +60,12 @@ largest-most [] e h = omega arith
 largest-most (x ∷ xs) e h = omega (arith, h 0 (omega arith), largest-most xs e (λ i l. h (suc i) (omega arith)))
 
 module _ (d : Diagram) (some : 1 ≤ d .contacts) where
-  gates-depth : Each (LaidGate (depthAt (boardOf d)) (depthMost d)) (gateLine (d .contacts)) (boardOf d .gates)
+  gates-depth : Each (LaidGate (λ x. 2 ≤ x) (depthAt (boardOf d)) (depthMost d)) (gateLine (d .contacts)) (boardOf d .gates)
   unfolding boardOf
   gates-depth =
-      board-lays d some (depthAt (boardOf d)) (rail-depth (boardOf d)) (record {
-        has = λ g h. let w = gates-wired d some g h in le-of-eq (gate-depth (boardOf d) g h (w .1) (w .2));
+      board-lays d some (λ x. 2 ≤ x) (depthAt (boardOf d)) (rail-depth (boardOf d)) (λ l h b. (omega arith, omega arith)) (record {
+        has = λ g h.
+            let w = gates-wired d some g h in (omega arith, le-of-eq (gate-depth (boardOf d) g h (w .1) (w .2)));
       }) .0
 
   pub line-depth : (x : ℕ) → x < lineCount (boardOf d) → depthAt (boardOf d) x ≤ depthMost d

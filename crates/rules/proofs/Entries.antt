@@ -1,8 +1,10 @@
 -- Entries by their lines, the lines among some terms, and the two ways in which an entry of a product comes.
 use Prim.Native.Nat.{ℕ, _+_, _*_, _≤_}
 use native.Mathlib.Omega.{arith}
+use mathlib.Core.Path.{_≡_, refl, sym, _∙_}
 use mathlib.Core.Bool.{Bool, true, false, _&&_, cond}
 use mathlib.Core.List.{List, [], _∷_}
+use borrow.Author.Tests.{eqb-true, eqb-false}
 use lib.Dec.{eqb}
 use lib.ListN.{length}
 use Rattle.fields.specs.Bounded.{any}
@@ -18,15 +20,17 @@ pub data OfLine (S : ℕ → Type 0) : Entry → Type 0 where
   always : OfLine S Always
   line : {x : ℕ} → S x → OfLine S (Line x)
 
--- The entry of a node is never, always, or one of its level's rails.
-pub node-entry : {S : ℕ → Type 0} (zero-edge one-edge l v : ℕ) → S (2 + 2 * l) → S (3 + 2 * l) → OfLine S (nodeEntry zero-edge one-edge l v)
-node-entry {S} zero-edge one-edge l v on off = go (eqb one-edge v) (eqb zero-edge v)
+-- The entry of a node is never, always, or, where its edges differ, one of its level's rails.
+pub node-entry : {S : ℕ → Type 0} (zero-edge one-edge l v : ℕ) →
+    ((zero-edge ≡ one-edge → ⊥) → S (2 + 2 * l) × S (3 + 2 * l)) → OfLine S (nodeEntry zero-edge one-edge l v)
+node-entry {S} zero-edge one-edge l v rails = go (eqb one-edge v) (eqb zero-edge v) refl refl
   where
-    go : (p q : Bool) → OfLine S (cond p (cond q Always (Line (2 + 2 * l))) (cond q (Line (3 + 2 * l)) Never))
-    go true true = always
-    go true false = line on
-    go false true = line off
-    go false false = never
+    go : (p q : Bool) → eqb one-edge v ≡ p → eqb zero-edge v ≡ q →
+        OfLine S (cond p (cond q Always (Line (2 + 2 * l))) (cond q (Line (3 + 2 * l)) Never))
+    go true true e f = always
+    go true false e f = line (rails (λ same. eqb-false _ _ f (same ∙ eqb-true _ _ e)) .0)
+    go false true e f = line (rails (λ same. eqb-false _ _ e (sym same ∙ eqb-true _ _ f)) .1)
+    go false false e f = never
 
 pub of-map : {S R : ℕ → Type 0} {t : Entry} → ((x : ℕ) → S x → R x) → OfLine S t → OfLine R t
 of-map k never = never

@@ -7,6 +7,7 @@ use mathlib.Core.List.{List, [], _∷_}
 use lib.ListN.{length, getD}
 use Rattle.diagram.specs.declared.Diagram.{Diagram}
 use Rattle.diagram.specs.Diagram.{root}
+use Rattle.diagram.proofs.Paths.{Branches}
 use Rattle.netlist.specs.Netlist.{gateLine, lineCount}
 use Rattle.netlist.proofs.Tests.{Wired, PairsWired}
 use Rattle.rules.specs.declared.Entry.{Entry}
@@ -22,7 +23,7 @@ use Rattle.rules.proofs.Entries.{OfLine, never, always, line}
 use Rattle.rules.proofs.Lays.{Lies, Rises, LaidGate}
 use Rattle.rules.proofs.Lines.{Table, table-on, table-at, block-lays}
 
-line-below : {δ : ℕ → ℕ} {e next : ℕ} {t : Entry} → 2 ≤ next → OfLine (Lies δ e next) t → lineOf t < next
+line-below : {S : ℕ → Type 0} {δ : ℕ → ℕ} {e next : ℕ} {t : Entry} → 2 ≤ next → OfLine (Lies S δ e next) t → lineOf t < next
 line-below some never = omega arith
 line-below some always = omega arith
 line-below some (line l) = l .below
@@ -33,24 +34,27 @@ any-default (v ∷ l) zero a b h = refl
 any-default (v ∷ l) (suc i) a b h = any-default l i a b (le-of-suc-le-suc h)
 
 module _ (d : Diagram) (some : 1 ≤ d .contacts) where
-  -- For any depths of the lines that are 0 at the rails and rise by one at most from gate to gate.
-  pub board-lays : (δ : ℕ → ℕ) → ((x : ℕ) → x < gateLine (d .contacts) → δ x ≡ 0) →
-      Each (Rises δ) (gateLine (d .contacts)) (boardOf d .gates) →
-      Each (LaidGate δ (depthMost d)) (gateLine (d .contacts)) (boardOf d .gates)
-      × Table δ (depthMost d) (lineCount (boardOf d)) (wholeBlock d .1)
+  -- For any depths of the lines that are 0 at the rails and rise by one at most from gate to gate, and any S that the gates' lines
+  -- have and the rails of levels that have a node with different edges.
+  pub board-lays : (S : ℕ → Type 0) (δ : ℕ → ℕ) → ((x : ℕ) → x < gateLine (d .contacts) → δ x ≡ 0) →
+      ((l : ℕ) → l < d .contacts → Branches d l → S (2 + 2 * l) × S (3 + 2 * l)) →
+      Each (Rises S δ) (gateLine (d .contacts)) (boardOf d .gates) →
+      Each (LaidGate S δ (depthMost d)) (gateLine (d .contacts)) (boardOf d .gates)
+      × Table S δ (depthMost d) (lineCount (boardOf d)) (wholeBlock d .1)
   unfolding boardOf wholeBlock depthMost
-  board-lays δ flat rises =
+  board-lays S δ flat rails rises =
       let n = d .contacts in
       let b = log2up (widest d) in
       let low = height-cut n (log2up n) (log2-enough n) in
       let deep : height (cut n) * suc b ≤ log2up n * (1 + b) = omega (arith, mul-le-mul-right (suc b) low) in
-      let (wired, table) = block-lays d flat (depthMost d) b (λ l h. le-trans (widest-at d l h) (log2-enough (widest d)))
+      let (wired, table) = block-lays d flat rails (depthMost d) b (λ l h. le-trans (widest-at d l h) (log2-enough (widest d)))
       (cut n) 0 (gateLine n) (omega (arith, size-cut n some)) (omega arith) deep .laid rises in
       (wired, table-on deep (omega arith) table)
 
-  flat : Each (LaidGate (λ _. 0) (depthMost d)) (gateLine (d .contacts)) (boardOf d .gates)
-      × Table (λ _. 0) (depthMost d) (lineCount (boardOf d)) (wholeBlock d .1)
-  flat = board-lays (λ _. 0) (λ x h. refl) (record { has = λ i h. omega arith })
+  flat : Each (LaidGate (λ x. 2 ≤ x) (λ _. 0) (depthMost d)) (gateLine (d .contacts)) (boardOf d .gates)
+      × Table (λ x. 2 ≤ x) (λ _. 0) (depthMost d) (lineCount (boardOf d)) (wholeBlock d .1)
+  flat =
+      board-lays (λ x. 2 ≤ x) (λ _. 0) (λ x h. refl) (λ l h b. (omega arith, omega arith)) (record { has = λ i h. omega arith })
 
   pub gates-wired : (g : ℕ) → g < length (boardOf d .gates) →
       let at = getD (boardOf d .gates) g anyGate in

@@ -51,7 +51,7 @@ loop-again : tie.Need-loop-again Inv-loop μ-loop
 loop-again c =
     let loop = c .before .before .before in
     let args = loop .before .before .args in
-    let stands = real-stands (node-entry (args .zero) (args .one) (args .l) (loop .loop .v) (omega arith) (omega arith)) in (
+    let stands = real-stands (node-entry (args .zero) (args .one) (args .l) (loop .loop .v) (λ _. (omega arith, omega arith))) in (
       omega arith,
       simp length-set (loop .loop .inv .1),
       row-more _ (loop .loop .inv .2) (omega arith)
