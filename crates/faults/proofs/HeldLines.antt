@@ -13,8 +13,7 @@ use Rattle.simulation.specs.Run.{held}
 use Rattle.netlist.proofs.Lists.{length-holds}
 use Rattle.netlist.proofs.Tests.{Wired}
 use Rattle.simulation.proofs.Monotone.{AllHeld, held-by}
-use Rattle.rules.specs.Code.{codeRails}
-use Rattle.rules.proofs.Models.{OneWay, follows-weaken, follows-line}
+use Rattle.rules.proofs.Models.{codeOf, OneWay, follows-weaken, follows-line}
 use Rattle.rules.proofs.Held.{shown, code-follows}
 
 -- Every hold of a hold list's bytes has a property that each place gives it.
@@ -34,11 +33,8 @@ all-weaken P Q f [] a = tt
 all-weaken P Q f (h ∷ hs) a = (f _ (a .0), all-weaken P Q f hs (a .1))
 
 module _ (net : Netlist) (wired : Wired net) (x : Input) (b : ℕ) (bound : b ≤ 1) where
-  abbrev rails : List ℕ
-  rails = codeRails (net .contacts) x
-
   -- Holds all at b.
-  pub one-way-run : (holds : List Hold) → AllHeld (λ v. v ≡ b) holds → OneWay net x b (shown net rails holds)
+  pub one-way-run : (holds : List Hold) → AllHeld (λ v. v ≡ b) holds → OneWay net x b (shown net (codeOf net x) holds)
   one-way-run holds all =
       follows-weaken
       (λ y made e.
@@ -46,7 +42,7 @@ module _ (net : Netlist) (wired : Wired net) (x : Input) (b : ℕ) (bound : b �
       (code-follows net wired x holds (all-weaken (λ v. v ≡ b) (λ v. v ≤ 1) (λ v e. omega arith) holds all))
 
   -- One line held at b shows b.
-  pub held-shows : (y : ℕ) → 2 ≤ y → y < lineCount net → shown net rails (record { line = y; value = b } ∷ []) y ≡ b
+  pub held-shows : (y : ℕ) → 2 ≤ y → y < lineCount net → shown net (codeOf net x) (record { line = y; value = b } ∷ []) y ≡ b
   unfolding held
   held-shows y low high =
       let (made, e) = follows-line (code-follows net wired x (record { line = y; value = b } ∷ []) (bound, tt)) y low high in

@@ -10,10 +10,9 @@ use Rattle.netlist.proofs.Tests.{Wired}
 use Rattle.simulation.specs.Run.{held, valuesOf}
 use Rattle.simulation.proofs.Monotone.{AllHeld, lines-bits}
 use Rattle.simulation.proofs.Obeys.{obeys}
-use Rattle.rules.specs.Code.{codeRails}
 use Rattle.rules.proofs.Makes.{anyGate}
 use Rattle.rules.proofs.Codes.{code-length, code-bits}
-use Rattle.rules.proofs.Models.{Follows, Model}
+use Rattle.rules.proofs.Models.{Follows, codeOf, Model}
 
 -- What line y shows.
 abbrev pub shown : Netlist → List ℕ → List Hold → ℕ → ℕ
@@ -33,16 +32,12 @@ module _ (net : Netlist) (wired : Wired net) where
         gates = record { has = λ g h. rules .gate g anyGate h };
       }
 
-  -- At a code input.
+  -- At a code input; with nothing held the run is a model.
   module _ (x : Input) where
-    abbrev rails : List ℕ
-    rails = codeRails (net .contacts) x
-
     pub code-follows : (holds : List Hold) → AllHeld (λ v. v ≤ 1) holds →
-        Follows net rails (shown net rails holds) (λ y made. shown net rails holds y ≡ held holds y made)
-    code-follows holds = run-follows rails holds (code-length x (net .contacts)) (code-bits x (net .contacts))
+        Follows net (codeOf net x) (shown net (codeOf net x) holds) (λ y made. shown net (codeOf net x) holds y ≡ held holds y made)
+    code-follows holds = run-follows (codeOf net x) holds (code-length x (net .contacts)) (code-bits x (net .contacts))
 
-    -- With nothing held a run is a model.
-    pub run-model : Model net x (shown net rails [])
+    pub run-model : Model net x (shown net (codeOf net x) [])
     unfolding held
     run-model = code-follows [] tt

@@ -10,8 +10,8 @@ use Rattle.diagram.proofs.Unique.{Reduced, Same, unique}
 use Rattle.netlist.specs.declared.Pair.{Pair}
 use Rattle.netlist.specs.Netlist.{Netlist}
 use Rattle.rules.specs.Board.{boardOf}
-use Rattle.rules.specs.Code.{codeRails}
 use Rattle.rules.proofs.Pairs.{pair, pairs-length, pairs-at}
+use Rattle.rules.proofs.Models.{codeOf}
 use Rattle.rules.proofs.Values.{model-right}
 use Rattle.rules.proofs.Wired.{board-wired}
 use Rattle.rules.proofs.Held.{shown, run-model}
@@ -36,7 +36,7 @@ module _ (d e : Diagram) (one : boardOf d ≡ boardOf e) where
     same-values x j h =
         let some' : 1 ≤ e .contacts = omega (arith, same-contacts) in
         sym (model-right d x _ (run-model _ (board-wired d some) x) (rd .ranged) some j h .0)
-        ∙ ap₂ (λ (net : Netlist) (p : Pair). shown net (codeRails (net .contacts) x) [] (p .on)) one (same-pairs j h)
+        ∙ ap₂ (λ (net : Netlist) (p : Pair). shown net (codeOf net x) [] (p .on)) one (same-pairs j h)
         ∙ model-right e x _ (run-model _ (board-wired e some') x) (re .ranged) some' j (omega (arith, same-outputs)) .0
 
     pub injective : Same d e

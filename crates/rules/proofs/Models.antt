@@ -30,13 +30,17 @@ pub record Follows (net : Netlist) (rails : List ℕ) (ν : ℕ → ℕ) (S : �
   pub rail : (i : ℕ) → i < 2 * net .contacts → S (2 + i) (getD rails i 0)
   pub gates : Gates (λ y g. S y (gateOf (g .kind) (ν (g .left)) (ν (g .right)))) net
 
+-- The rails of a code input.
+abbrev pub codeOf : Netlist → Input → List ℕ
+codeOf net x = codeRails (net .contacts) x
+
 -- At a code input with nothing held.
 abbrev pub Model : Netlist → Input → (ℕ → ℕ) → Type 0
-Model net x ν = Follows net (codeRails (net .contacts) x) ν (λ y made. ν y ≡ made)
+Model net x ν = Follows net (codeOf net x) ν (λ y made. ν y ≡ made)
 
 -- At a code input with some lines held at b.
 abbrev pub OneWay : Netlist → Input → ℕ → (ℕ → ℕ) → Type 0
-OneWay net x b ν = Follows net (codeRails (net .contacts) x) ν (λ y made. (ν y ≡ made) ⊎ (ν y ≡ b))
+OneWay net x b ν = Follows net (codeOf net x) ν (λ y made. (ν y ≡ made) ⊎ (ν y ≡ b))
 
 module _ {net : Netlist} {rails : List ℕ} {ν : ℕ → ℕ} {S : ℕ → ℕ → Type 0} where
   pub follows-weaken : {R : ℕ → ℕ → Type 0} → ((y made : ℕ) → S y made → R y made) → Follows net rails ν S → Follows net rails ν R
@@ -49,6 +53,7 @@ module _ {net : Netlist} {rails : List ℕ} {ν : ℕ → ℕ} {S : ℕ → ℕ 
         gates = each-weaken (λ y g. k _ _) (f .gates);
       }
 
+  -- Each line past the constants has S of something.
   pub follows-line : Follows net rails ν S → (y : ℕ) → 2 ≤ y → y < lineCount net → (made : ℕ) × S y made
   follows-line f y low high = by-cases (decLt y (gateLine (net .contacts))) rail gate
     where
@@ -64,7 +69,7 @@ module _ {net : Netlist} (x : Input) {ν : ℕ → ℕ} where
   pub one-way : (b : ℕ) → Model net x ν → OneWay net x b ν
   one-way b = follows-weaken (λ y made. inl)
 
-  module _ {S : ℕ → ℕ → Type 0} (f : Follows net (codeRails (net .contacts) x) ν S) (i : ℕ) (h : i < net .contacts) where
+  module _ {S : ℕ → ℕ → Type 0} (f : Follows net (codeOf net x) ν S) (i : ℕ) (h : i < net .contacts) where
     on : S (2 + 2 * i) (bit (x i))
     on = rw (code-on x (net .contacts) i h) at (f .rail (2 * i) (omega arith))
 
