@@ -4,9 +4,10 @@ use native.Mathlib.Nat.{zero-add}
 use native.Mathlib.Numerals.{add-one}
 use native.Mathlib.Omega.{arith}
 use mathlib.Core.Path.{_≡_, refl, sym, ap, _∙_}
-use mathlib.Core.List.{List, [], _∷_, _++_, append-assoc, flatMap}
+use mathlib.Core.List.{List, [], _∷_, _++_, flatMap}
 use lib.ListN.{length, length-append, set}
 use lib.Seq.{sets}
+use Rattle.fields.proofs.Parts.{flat-append}
 use Rattle.files.proofs.Written.{sets-more}
 use Rattle.netlist.specs.Netlist.{gateBytes}
 use Rattle.netlist.proofs.Files.{length-gate-bytes}
@@ -21,12 +22,6 @@ module _ {A : Type 0} where
   sets-five l i a b c d e =
       ap (λ (m : List A). sets m (i + 3) (d ∷ e ∷ [])) (sets-more l i (i + 1) (a ∷ []) (b ∷ c ∷ []) refl)
       ∙ sets-more l i (i + 3) (a ∷ b ∷ c ∷ []) (d ∷ e ∷ []) refl
-
-module _ {A B : Type 0} (f : A → List B) where
-  pub flat-append : (xs ys : List A) → flatMap f (xs ++ ys) ≡ flatMap f xs ++ flatMap f ys
-  unfolding flatMap
-  flat-append [] ys = refl
-  flat-append (x ∷ xs) ys = rw (flat-append xs ys, append-assoc (f x) (flatMap f xs) (flatMap f ys))
 
 module _ {A : Type 0} {first made : ℕ} {before : List ℕ} where
   pub written-return : (a : A) → Written (return a) first made before before a made

@@ -2,7 +2,7 @@
 use borrow.Author.Tests.{leb-true, eqb-true}
 use native.Mathlib.Omega.{arith}
 use Prim.Native.Nat.{ℕ, _+_, _/_, _%_, _≤_}
-use mathlib.Core.Path.{_≡_, refl, ap, _∙_}
+use mathlib.Core.Path.{_≡_, refl, sym, ap, _∙_}
 use mathlib.Core.Bool.{Bool, true, false, _&&_, cond}
 use mathlib.Core.List.{List, [], _∷_}
 use lib.Dec.{leb, eqb}
@@ -12,8 +12,10 @@ use Rattle.fields.specs.declared.Framing.the-variants.{Whole, Broken}
 use Rattle.fields.specs.Fields.{Item, Fields, fieldsOf, valueIn}
 use Rattle.fields.specs.Refusals.{between, framingNumber, firstNo}
 use Rattle.fields.proofs.Bounded.{and-left, and-right}
+use Rattle.files.specs.declared.header.Contacts.{Contacts}
 use Rattle.files.specs.declared.header.Contacts.the-variants.{Counted, Uncounted}
 use Rattle.files.specs.Header.{contactsIn, contactsNumber}
+use Rattle.files.proofs.Heads.{field, field-is, Counts, counted}
 use Rattle.netlist.specs.declared.form.Form.{Form}
 use Rattle.netlist.specs.declared.form.Form.the-variants.{Formed, Unformed}
 use Rattle.netlist.specs.declared.wiring.Wiring.the-variants.{Sound, Unsound}
@@ -28,23 +30,28 @@ pub record Parts (size low high : ℕ) (v : List ℕ) : Type 0 where
   pub least : low ≤ length v / size
   pub most : length v / size ≤ high
 
-has-parts : (tag size low high : ℕ) (i : Item) → hasParts tag size low high i ≡ true → Parts size low high (i .value)
+has-parts : (tag size low high : ℕ) (i : Item) → hasParts tag size low high i ≡ true →
+    (i ≡ field tag (i .value)) × Parts size low high (i .value)
 has-parts tag size low high i e =
     let n = length (i .value) / size in
     let a = eqb (i .tag) tag in
     let b = eqb (length (i .value) % size) 0 in
     let c = between low n high in
-    let s = and-right (a && b) c e in
-    record {
-      whole = eqb-true _ _ (and-right a b (and-left (a && b) c e));
-      least = leb-true _ _ (and-left (leb low n) (leb n high) s);
-      most = leb-true _ _ (and-right (leb low n) (leb n high) s);
-    }
+    let f = and-left (a && b) c e in
+    let s = and-right (a && b) c e in (
+      field-is i (eqb-true _ _ (and-left a b f)) refl,
+      record {
+        whole = eqb-true _ _ (and-right a b f);
+        least = leb-true _ _ (and-left (leb low n) (leb n high) s);
+        most = leb-true _ _ (and-right (leb low n) (leb n high) s);
+      },
+    )
 
 -- What a yes to question 11 says: n contacts, and whole gates and outputs within their bounds.
 pub record WellFormed (fs : Fields) (n : ℕ) : Type 0 where
   pub whole : fs .framing ≡ Whole
   pub contacts : n ≡ getD (valueIn (fs .items) 0) 0 0
+  pub items : fs .items ≡ field 1 (n ∷ []) ∷ field 4 (valueIn (fs .items) 1) ∷ field 5 (valueIn (fs .items) 2) ∷ []
   pub least : 1 ≤ n
   pub most : n ≤ 12
   pub gates : Parts 5 0 10560 (valueIn (fs .items) 1)
@@ -54,28 +61,23 @@ whole : (f : Framing) → eqb (framingNumber f) 0 ≡ true → f ≡ Whole
 whole Whole e = refl
 whole Broken e = absurd (let z : _≡_ {A = ℕ} 0 1 = cc in omega arith)
 
-counts : (is : List Item) → eqb (contactsNumber (contactsIn is)) 0 ≡ true → between 1 (getD (valueIn is 0) 0 0) 12 ≡ true
-unfolding contactsIn
-counts [] e = absurd (let z : _≡_ {A = ℕ} 0 1 = cc in omega arith)
-counts (i ∷ is) e = go (eqb (i .tag) 1 && eqb (length (i .value)) 1) (between 1 n 12) e
+counts : (is : List Item) → eqb (contactsNumber (contactsIn is)) 0 ≡ true → (n : ℕ) × Counts is n
+counts is e = go (contactsIn is) refl e
   where
-    n : ℕ
-    n = getD (i .value) 0 0
+    go : (c : Contacts) → contactsIn is ≡ c → eqb (contactsNumber c) 0 ≡ true → (n : ℕ) × Counts is n
+    go (Counted n) c e = (n, counted is n c)
+    go Uncounted c e = absurd (let z : _≡_ {A = ℕ} 0 1 = cc in omega arith)
 
-    go : (a b : Bool) → eqb (contactsNumber (cond (a && b) (Counted n) Uncounted)) 0 ≡ true → b ≡ true
-    go true true e = refl
-    go true false e = absurd (let z : _≡_ {A = ℕ} 0 1 = cc in omega arith)
-    go false b e = absurd (let z : _≡_ {A = ℕ} 0 1 = cc in omega arith)
-
-parts : (is : List Item) → areParts (drop 1 is) ≡ true → Parts 5 0 10560 (valueIn is 1) × Parts 4 1 8 (valueIn is 2)
+parts : (is : List Item) → areParts (drop 1 is) ≡ true →
+    (drop 1 is ≡ field 4 (valueIn is 1) ∷ field 5 (valueIn is 2) ∷ []) × Parts 5 0 10560 (valueIn is 1) × Parts 4 1 8 (valueIn is 2)
 unfolding areParts
 parts [] e = absurd (let z : _≡_ {A = ℕ} 0 1 = cc in omega arith)
 parts (i ∷ []) e = absurd (let z : _≡_ {A = ℕ} 0 1 = cc in omega arith)
 parts (i ∷ b ∷ []) e = absurd (let z : _≡_ {A = ℕ} 0 1 = cc in omega arith)
 parts (i ∷ b ∷ c ∷ []) e =
-    let p = hasParts 4 5 0 10560 b in
-    let q = hasParts 5 4 1 8 c in
-    (has-parts 4 5 0 10560 b (and-left p q e), has-parts 5 4 1 8 c (and-right p q e))
+    let g = has-parts 4 5 0 10560 b (and-left (hasParts 4 5 0 10560 b) (hasParts 5 4 1 8 c) e) in
+    let p = has-parts 5 4 1 8 c (and-right (hasParts 4 5 0 10560 b) (hasParts 5 4 1 8 c) e) in
+    (λ t. g .0 t ∷ p .0 t ∷ [], g .1, p .1)
 parts (i ∷ b ∷ c ∷ d ∷ is) e = absurd (let z : _≡_ {A = ℕ} 0 1 = cc in omega arith)
 
 pub well-formed : (fs : Fields) (n : ℕ) → formOf fs ≡ Formed n → WellFormed fs n
@@ -97,16 +99,18 @@ well-formed fs n e = go (a && b && c) refl e
     go : (t : Bool) → (a && b && c) ≡ t → cond t (Formed m) Unformed ≡ Formed n → WellFormed fs n
     go true t e =
         let l = and-left (a && b) c t in
-        let k = counts (fs .items) (and-right a b l) in
+        let (k, h) = counts (fs .items) (and-right a b l) in
         let same : n ≡ m = cc in
+        let is-k : n ≡ k = same ∙ ap (λ (is : List Item). getD (valueIn is 0) 0 0) (h .split) in
         let p = parts (fs .items) (and-right (a && b) c t) in
         record {
           whole = whole (fs .framing) (and-left a b l);
           contacts = same;
-          least = rw same (leb-true _ _ (and-left (leb 1 m) (leb m 12) k));
-          most = rw same (leb-true _ _ (and-right (leb 1 m) (leb m 12) k));
-          gates = p .0;
-          pairs = p .1;
+          items = rw is-k (h .split ∙ ap (_∷_ (field 1 (k ∷ []))) (sym (ap (drop 1) (h .split)) ∙ p .0));
+          least = rw is-k (h .low);
+          most = rw is-k (h .high);
+          gates = p .1;
+          pairs = p .2;
         }
     go false t e = absurd (let z : _≡_ {A = ℕ} 0 1 = cc in omega arith)
 

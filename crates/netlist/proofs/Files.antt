@@ -1,18 +1,19 @@
 -- The file of a netlist reads back as that netlist, and a sound netlist's file passes questions 11 and 12.
 use borrow.Author.Tests.{eq-eqb, le-leb}
-use native.Mathlib.Nat.{div-add-mod', not-suc-le-zero}
+use native.Mathlib.Nat.{div-add-mod'}
 use native.Mathlib.Omega.{arith}
-use Prim.Native.Nat.{ℕ, zero, suc, _+_, _*_, _/_, _%_, _≤_, _<_}
+use Prim.Native.Nat.{ℕ, _+_, _*_, _/_, _%_, _≤_, _<_}
 use mathlib.Core.Path.{_≡_, refl, sym, ap, ap₂, _∙_}
 use mathlib.Core.Bool.{true, _&&_}
-use mathlib.Core.List.{List, [], _∷_, _++_, flatMap}
-use lib.ListN.{length, getD, length-append}
-use lib.Seq.{ext-getD, getD-append-add}
+use mathlib.Core.List.{List, [], _∷_, flatMap}
+use lib.ListN.{length, getD, length-append, getD-replicate}
+use lib.Seq.{ext-getD}
 use Rattle.fields.specs.declared.Framing.the-variants.{Whole}
-use Rattle.fields.specs.Fields.{Item, Fields, fieldsOf, encoded}
+use Rattle.fields.specs.Fields.{numberOf, Item, Fields, fieldsOf, encoded}
 use Rattle.fields.specs.Refusals.{firstNo}
 use Rattle.fields.proofs.Bounded.{all-of}
 use Rattle.fields.proofs.Encoding.{of-encoded}
+use Rattle.fields.proofs.Parts.{length-parts, part-at}
 use Rattle.files.specs.Header.{contactsIn}
 use Rattle.netlist.specs.declared.Gate.{Gate}
 use Rattle.netlist.specs.declared.Pair.{Pair}
@@ -23,76 +24,62 @@ use Rattle.netlist.proofs.Forms.{formed}
 use Rattle.netlist.proofs.Lists.{length-gates, getD-gates, length-pairs, getD-pairs}
 use Rattle.netlist.proofs.Tests.{on-gate, in-pair, Bounds, Wired, PairsWired}
 
--- What stands past a first part.
-past : (xs rest : List ℕ) (j k : ℕ) → j ≡ length xs + k → getD (xs ++ rest) j 0 ≡ getD rest k 0
-past xs rest j k e = ap (λ (i : ℕ). getD (xs ++ rest) i 0) e ∙ getD-append-add xs rest k 0
-
 -- The gates' bytes.
 pub length-gate-bytes : (gs : List Gate) → length (flatMap gateBytes gs) ≡ 5 * length gs
-unfolding flatMap
-length-gate-bytes [] = refl
-length-gate-bytes (g ∷ gs) = omega (arith, length-gate-bytes gs)
+length-gate-bytes gs = length-parts gateBytes 5 (λ g. refl) gs ∙ omega arith
 
-gate-past : (m : Gate) (rest : List ℕ) (g : ℕ) → gateAt (gateBytes m ++ rest) (suc g) ≡ gateAt rest g
-gate-past m rest g =
-    let xs = gateBytes m in
-    cc (
-      past xs rest (5 * suc g) (5 * g) (omega arith),
-      past xs rest (5 * suc g + 1) (5 * g + 1) (omega arith),
-      past xs rest (5 * suc g + 1 + 1) (5 * g + 1 + 1) (omega arith),
-      past xs rest (5 * suc g + 3) (5 * g + 3) (omega arith),
-      past xs rest (5 * suc g + 3 + 1) (5 * g + 3 + 1) (omega arith),
-    )
-
-pub gate-back : (gs : List Gate) (g : ℕ) (d : Gate) → g < length gs → gateAt (flatMap gateBytes gs) g ≡ getD gs g d
-unfolding flatMap
-gate-back [] g d h = absurd (not-suc-le-zero h)
-gate-back (m ∷ gs) zero d h = simp div-add-mod'
-gate-back (m ∷ gs) (suc g) d h = gate-past m (flatMap gateBytes gs) g ∙ gate-back gs g d (omega arith)
-
-abbrev no-gate : Gate
+abbrev pub no-gate : Gate
 no-gate = record { kind = 0; left = 0; right = 0 }
+
+pub gate-byte : (gs : List Gate) (g k j : ℕ) → k < 5 → j ≡ g * 5 + k →
+    getD (flatMap gateBytes gs) j 0 ≡ getD (gateBytes (getD gs g no-gate)) k 0
+gate-byte gs g k j h e = rw e (part-at gateBytes 5 (λ g. refl) no-gate (λ i l. getD-replicate 5 i 0 0 l) gs g k h)
+
+gate-back : (gs : List Gate) (g : ℕ) → gateAt (flatMap gateBytes gs) g ≡ getD gs g no-gate
+gate-back gs g =
+    let m = getD gs g no-gate in
+    let at = gate-byte gs g in
+    let kind : gateAt (flatMap gateBytes gs) g .kind ≡ m .kind = at 0 (5 * g) (omega arith) (omega arith) in
+    let left : gateAt (flatMap gateBytes gs) g .left ≡ m .left =
+    ap₂ numberOf (at 1 (5 * g + 1) (omega arith) (omega arith)) (at 2 (5 * g + 1 + 1) (omega arith) (omega arith)) ∙ div-add-mod' (m .left) 256 in
+    let right : gateAt (flatMap gateBytes gs) g .right ≡ m .right =
+    ap₂ numberOf (at 3 (5 * g + 3) (omega arith) (omega arith)) (at 4 (5 * g + 3 + 1) (omega arith) (omega arith)) ∙ div-add-mod' (m .right) 256 in
+    λ i. record { kind = kind i; left = left i; right = right i }
 
 pub gates-back : (gs : List Gate) → gatesOf (flatMap gateBytes gs) ≡ gs
 gates-back gs =
     let v = flatMap gateBytes gs in
     let b = length-gate-bytes gs in
     let l : length (gatesOf v) ≡ length gs = omega (arith, length-gates v) in
-    ext-getD no-gate (gatesOf v) gs l
-    (λ g h. getD-gates v g no-gate (omega arith) ∙ gate-back gs g no-gate (omega arith))
+    ext-getD no-gate (gatesOf v) gs l (λ g h. getD-gates v g no-gate (omega arith) ∙ gate-back gs g)
 
 -- The outputs' bytes.
 pub length-pair-bytes : (ps : List Pair) → length (flatMap pairBytes ps) ≡ 4 * length ps
-unfolding flatMap
-length-pair-bytes [] = refl
-length-pair-bytes (p ∷ ps) = omega (arith, length-pair-bytes ps)
+length-pair-bytes ps = length-parts pairBytes 4 (λ p. refl) ps ∙ omega arith
 
-pair-past : (p : Pair) (rest : List ℕ) (j : ℕ) → pairAt (pairBytes p ++ rest) (suc j) ≡ pairAt rest j
-pair-past p rest j =
-    let xs = pairBytes p in
-    cc (
-      past xs rest (4 * suc j) (4 * j) (omega arith),
-      past xs rest (4 * suc j + 1) (4 * j + 1) (omega arith),
-      past xs rest (4 * suc j + 2) (4 * j + 2) (omega arith),
-      past xs rest (4 * suc j + 2 + 1) (4 * j + 2 + 1) (omega arith),
-    )
-
-pub pair-back : (ps : List Pair) (j : ℕ) (d : Pair) → j < length ps → pairAt (flatMap pairBytes ps) j ≡ getD ps j d
-unfolding flatMap
-pair-back [] j d h = absurd (not-suc-le-zero h)
-pair-back (p ∷ ps) zero d h = simp div-add-mod'
-pair-back (p ∷ ps) (suc j) d h = pair-past p (flatMap pairBytes ps) j ∙ pair-back ps j d (omega arith)
-
-abbrev no-pair : Pair
+abbrev pub no-pair : Pair
 no-pair = record { on = 0; off = 0 }
+
+pub pair-byte : (ps : List Pair) (p k j : ℕ) → k < 4 → j ≡ p * 4 + k →
+    getD (flatMap pairBytes ps) j 0 ≡ getD (pairBytes (getD ps p no-pair)) k 0
+pair-byte ps p k j h e = rw e (part-at pairBytes 4 (λ p. refl) no-pair (λ i l. getD-replicate 4 i 0 0 l) ps p k h)
+
+pair-back : (ps : List Pair) (j : ℕ) → pairAt (flatMap pairBytes ps) j ≡ getD ps j no-pair
+pair-back ps j =
+    let p = getD ps j no-pair in
+    let at = pair-byte ps j in
+    let on : pairAt (flatMap pairBytes ps) j .on ≡ p .on =
+    ap₂ numberOf (at 0 (4 * j) (omega arith) (omega arith)) (at 1 (4 * j + 1) (omega arith) (omega arith)) ∙ div-add-mod' (p .on) 256 in
+    let off : pairAt (flatMap pairBytes ps) j .off ≡ p .off =
+    ap₂ numberOf (at 2 (4 * j + 2) (omega arith) (omega arith)) (at 3 (4 * j + 2 + 1) (omega arith) (omega arith)) ∙ div-add-mod' (p .off) 256 in
+    λ i. record { on = on i; off = off i }
 
 pub pairs-back : (ps : List Pair) → pairsOf (flatMap pairBytes ps) ≡ ps
 pairs-back ps =
     let v = flatMap pairBytes ps in
     let b = length-pair-bytes ps in
     let l : length (pairsOf v) ≡ length ps = omega (arith, length-pairs v) in
-    ext-getD no-pair (pairsOf v) ps l
-    (λ j h. getD-pairs v j no-pair (omega arith) ∙ pair-back ps j no-pair (omega arith))
+    ext-getD no-pair (pairsOf v) ps l (λ j h. getD-pairs v j no-pair (omega arith) ∙ pair-back ps j)
 
 abbrev with-parts : ℕ → List Gate → List Pair → Netlist
 with-parts n gs ps = record { contacts = n; gates = gs; pairs = ps }
@@ -154,10 +141,10 @@ module _ (net : Netlist) (b : Bounds net) where
         let k : length v / 5 ≡ length (net .gates) = omega arith in
         ap₂ _&&_
         (all-of (λ i. isGate (gateLine (net .contacts) + i) (gateAt v i)) (length v / 5)
-        (λ i h. ap (isGate (gateLine (net .contacts) + i)) (gate-back (net .gates) i no-gate (omega arith))
+        (λ i h. ap (isGate (gateLine (net .contacts) + i)) (gate-back (net .gates) i)
         ∙ on-gate _ _ (wired i no-gate (omega arith))))
         (all-of (λ j. isPair (gateLine (net .contacts) + length v / 5) (pairAt u j)) (length u / 4)
-        (λ j h. ap₂ isPair (ap (λ (l : ℕ). gateLine (net .contacts) + l) k) (pair-back (net .pairs) j no-pair (omega arith))
+        (λ j h. ap₂ isPair (ap (λ (l : ℕ). gateLine (net .contacts) + l) k) (pair-back (net .pairs) j)
         ∙ in-pair _ _ (shown j no-pair (omega arith))))
 
     pub file-accepted : netlistRefusal (fileOf net) ≡ 0

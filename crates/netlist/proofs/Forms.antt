@@ -1,33 +1,20 @@
 -- Question 11 by its tests.
-use native.Mathlib.Omega.{arith}
 use Prim.Native.Nat.{ℕ}
 use mathlib.Core.Path.{_≡_, sym, ap, _∙_}
-use mathlib.Core.Bool.{Bool, true, false, _&&_, and-false, cond}
+use mathlib.Core.Bool.{Bool, true, false, _&&_, and-false}
 use mathlib.Core.List.{List, [], _∷_}
-use lib.Dec.{eqb}
-use lib.ListN.{length, getD, drop}
+use lib.ListN.{getD, drop}
 use Rattle.fields.specs.declared.Framing.the-variants.{Whole, Broken}
 use Rattle.fields.specs.declared.Field.{Field}
 use Rattle.fields.specs.declared.Cursor.{Cursor}
 use Rattle.fields.specs.declared.Step.the-variants.{Next}
 use Rattle.fields.specs.Fields.{Item, Fields, itemOf, stepAt, fieldsFrom, fieldsOf, valueIn}
-use Rattle.fields.specs.Refusals.{between}
 use Rattle.fields.proofs.Steps.{from-start, items-next}
 use Rattle.files.specs.declared.header.Contacts.the-variants.{Counted, Uncounted}
 use Rattle.files.specs.Header.{contactsIn}
+use Rattle.files.proofs.Heads.{counted}
 use Rattle.netlist.specs.declared.form.Form.the-variants.{Formed, Unformed}
 use Rattle.netlist.specs.Questions.{hasParts, areParts, formOf}
-
--- The count that question 2 finds is the first byte of the first value.
-pub counted : (is : List Item) (n : ℕ) → contactsIn is ≡ Counted n → n ≡ getD (valueIn is 0) 0 0
-unfolding contactsIn
-counted [] n e = absurd (let z : _≡_ {A = ℕ} 0 1 = cc in omega arith)
-counted (i ∷ is) n e =
-    go (eqb (i .tag) 1 && eqb (length (i .value)) 1 && between 1 (getD (i .value) 0 0) 12) e
-  where
-    go : (b : Bool) → cond b (Counted (getD (i .value) 0 0)) Uncounted ≡ Counted n → n ≡ getD (i .value) 0 0
-    go true e = cc
-    go false e = absurd (let z : _≡_ {A = ℕ} 0 1 = cc in omega arith)
 
 module _ (fs : Fields) where
   pub broken : fs .framing ≡ Broken → Unformed ≡ formOf fs
@@ -45,7 +32,8 @@ module _ (fs : Fields) where
   pub formed : {n : ℕ} → fs .framing ≡ Whole → contactsIn (fs .items) ≡ Counted n → areParts (drop 1 (fs .items)) ≡ true →
       Formed n ≡ formOf fs
   unfolding formOf
-  formed {n} w e p = ap Formed (counted (fs .items) n e) ∙ simp (w, e, p)
+  formed {n} w e p =
+      ap Formed (sym (ap (λ (is : List Item). getD (valueIn is 0) 0 0) (counted (fs .items) n e .split))) ∙ simp (w, e, p)
 
 -- The fields past the first, from the cursor that has skipped it on.
 module _ (file : List ℕ) (at from : ℕ) (start : at ≡ 0)

@@ -20,7 +20,7 @@ use Rattle.rules.specs.Blocks.{entryAt}
 use Rattle.rules.specs.Board.{lineOf, pairOf}
 use Rattle.products.specs.Cells.{matrixOf}
 use Rattle.products.proofs.Cells.{entry-line, cell-at}
-use Rattle.gates.proofs.Writing.{flat-append}
+use Rattle.fields.proofs.Parts.{flat-append}
 
 pub listed-same : {A : Type 0} (f g : ℕ → A) (count p : ℕ) → ((i : ℕ) → i < p + count → f i ≡ g i) → listed f count p ≡ listed g count p
 unfolding listed

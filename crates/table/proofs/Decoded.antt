@@ -6,8 +6,9 @@ use mathlib.Core.List.{List, [], _∷_, _++_, map, flatMap, append-nil, append-a
 use lib.ListN.{length, getD, set, drop, replicate, length-append, length-map, length-replicate}
 use lib.Seq.{paste}
 use Rattle.fields.specs.Fields.{Item, valueIn}
+use Rattle.fields.proofs.Parts.{flat-append}
 use Rattle.table.specs.Table.{padded, levelsOf, diagramOf}
-use Rattle.table.proofs.Padded.{length-padded, padded-none, padded-cut, padded-set, padded-paste, flat-append, length-flat}
+use Rattle.table.proofs.Padded.{length-padded, padded-none, padded-cut, padded-set, padded-paste, length-flat}
 
 abbrev pub half : List ℕ → ℕ
 half v = length v / 2
@@ -68,7 +69,7 @@ module _ {ls : List (List ℕ)} {level : ℕ} {m : List Item} {widths edges : Li
         edges-are =
             ap₂ (λ (es : List ℕ) (l : ℕ). paste es l v (min 16 (length v))) (s .edges-are) (sym f)
             ∙ padded-paste 192 16 (flatMap (padded 16) p) v (omega arith)
-            ∙ ap (padded 192) (ap (λ (x : List ℕ). flatMap (padded 16) p ++ x) (sym (append-nil (padded 16 v))) ∙ sym (flat-append p (v ∷ [])));
+            ∙ ap (padded 192) (ap (λ (x : List ℕ). flatMap (padded 16) p ++ x) (sym (append-nil (padded 16 v))) ∙ sym (flat-append (padded 16) p (v ∷ [])));
       }
 
   -- The arrays hold all levels once none is left, or once they are full.
@@ -88,7 +89,7 @@ module _ {ls : List (List ℕ)} {level : ℕ} {m : List Item} {widths edges : Li
         s .widths-are ∙ padded-cut (map half p) (map half (values m)) 12 (omega arith)
             ∙ ap (padded 12) (sym (map-append half p (values m)) ∙ ap (map half) (sym (s .split))),
         s .edges-are ∙ padded-cut (flatMap (padded 16) p) (flatMap (padded 16) (values m)) 192 (omega arith)
-            ∙ ap (padded 192) (sym (flat-append p (values m)) ∙ ap (flatMap (padded 16)) (sym (s .split))),
+            ∙ ap (padded 192) (sym (flat-append (padded 16) p (values m)) ∙ ap (flatMap (padded 16)) (sym (s .split))),
       )
 
 pub diagram-is : (is : List Item) {contacts outputs : ℕ} {roots widths edges : List ℕ} → contacts ≡ getD (valueIn is 0) 0 0 →

@@ -13,7 +13,8 @@ use Rattle.table.specs.Table.{diagramIn}
 use Rattle.table.proofs.Accepted.{Accepted}
 use Rattle.diagram.proofs.Asked.{width-is}
 use Rattle.table.proofs.Decoded.{half}
-use Rattle.table.proofs.Heads.{field, field-is, counted, listed, value-one, level-at, level-count}
+use Rattle.files.proofs.Heads.{field, field-is, counted}
+use Rattle.table.proofs.Heads.{listed, value-one, level-at, level-count}
 use Rattle.table.proofs.Laid.{value-at, width-of, edge-of, root-of}
 
 -- A list is the row of its elements.

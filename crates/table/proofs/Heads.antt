@@ -1,62 +1,17 @@
--- The fields of a table file, by the answers of questions 2 to 4: the count of contacts, the output list, the levels.
+-- The fields of a table file, by the answers of questions 3 and 4: the output list, the levels.
 use Prim.Native.Nat.{ℕ, zero, suc, _%_, _≤_, _<_}
 use native.Mathlib.Omega.{arith}
-use mathlib.Core.Path.{_≡_, refl, ap, _∙_}
+use mathlib.Core.Path.{_≡_, refl, ap, ap₂}
 use mathlib.Core.Bool.{Bool, true, false, _&&_, cond, and-eq-true-iff}
 use mathlib.Core.List.{List, [], _∷_}
-use borrow.Author.Tests.{leb-true, eqb-true}
+use borrow.Author.Tests.{leb-true, eqb-true, le-leb, eq-eqb}
 use lib.Dec.{eqb, leb}
 use lib.ListN.{length, getD, drop}
 use Rattle.fields.specs.Fields.{Item, valueIn}
 use Rattle.fields.specs.Refusals.{between}
-use Rattle.files.specs.declared.header.Contacts.the-variants.{Counted, Uncounted}
-use Rattle.files.specs.Header.{contactsIn}
+use Rattle.files.proofs.Heads.{field, field-is}
 use Rattle.table.specs.declared.fit.Outputs.the-variants.{Listed, Unlisted}
 use Rattle.table.specs.Table.{outputsIn, isLevel, areLevels}
-
-abbrev pub field : ℕ → List ℕ → Item
-field tag value = record { tag = tag; value = value }
-
-pub field-is : (i : Item) {tag : ℕ} {value : List ℕ} → i .tag ≡ tag → i .value ≡ value → i ≡ field tag value
-field-is i t v = λ j. record { tag = t j; value = v j }
-
--- Fields that begin with the count of contacts.
-pub record Counts (is : List Item) (n : ℕ) : Type 0 where
-  pub rest : List Item
-  pub split : is ≡ field 1 (n ∷ []) ∷ rest
-  pub low : 1 ≤ n
-  pub high : n ≤ 12
-
-single : (v : List ℕ) → length v ≡ 1 → v ≡ getD v 0 0 ∷ []
-single [] e = absurd (omega arith)
-single (x ∷ []) e = refl
-single (x ∷ y ∷ v) e = absurd (omega arith)
-
-pub counted : (is : List Item) (n : ℕ) → contactsIn is ≡ Counted n → Counts is n
-unfolding contactsIn
-counted [] n e = absurd (let z : _≡_ {A = ℕ} 0 1 = cc in omega arith)
-counted (i ∷ is) n e = go (first && between 1 m 12) refl e
-  where
-    m : ℕ
-    m = getD (i .value) 0 0
-
-    first : Bool
-    first = eqb (i .tag) 1 && eqb (length (i .value)) 1
-
-    go : (b : Bool) → (first && between 1 m 12) ≡ b → cond b (Counted m) Uncounted ≡ Counted n → Counts (i ∷ is) n
-    go true t e =
-        let q : m ≡ n = cc in
-        let both = and-eq-true-iff first (between 1 m 12) .0 t in
-        let head = and-eq-true-iff (eqb (i .tag) 1) (eqb (length (i .value)) 1) .0 (both .0) in
-        let range = and-eq-true-iff (leb 1 m) (leb m 12) .0 (both .1) in
-        let value = single (i .value) (eqb-true _ _ (head .1)) ∙ ap (λ (k : ℕ). k ∷ []) q in
-        record {
-          rest = is;
-          split = ap (λ (j : Item). j ∷ is) (field-is i (eqb-true _ _ (head .0)) value);
-          low = rw q at (leb-true 1 m (range .0));
-          high = rw q at (leb-true m 12 (range .1));
-        }
-    go false t e = absurd (let z : _≡_ {A = ℕ} 0 1 = cc in omega arith)
 
 -- Fields that begin with the output list.
 pub record Lists (l : List Item) (m : ℕ) : Type 0 where
@@ -128,3 +83,12 @@ level-count zero (i ∷ is) e = absurd (let z : _≡_ {A = ℕ} 0 1 = cc in omeg
 level-count (suc n) [] e = absurd (let z : _≡_ {A = ℕ} 0 1 = cc in omega arith)
 level-count (suc n) (i ∷ is) e =
     ap suc (level-count n is (and-eq-true-iff (isLevel (i .tag) (length (i .value))) (areLevels n is) .0 e .1))
+
+pub are-levels : (l : List Item) → ((k : ℕ) → k < length l → IsLevel (getD l k (field 0 []))) → areLevels (length l) l ≡ true
+unfolding areLevels
+are-levels [] h = refl
+are-levels (i ∷ is) h =
+    let v = h 0 (omega arith) in
+    let e : isLevel (i .tag) (length (i .value)) ≡ true =
+    simp (eq-eqb _ _ (v .three), eq-eqb _ _ (v .even), le-leb _ _ (v .low), le-leb _ _ (v .high)) in
+    ap₂ _&&_ e (are-levels is (λ k g. h (suc k) (omega arith)))

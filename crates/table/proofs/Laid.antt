@@ -7,7 +7,7 @@ use lib.ListN.{length, getD, List·getD-map}
 use Rattle.fields.specs.Fields.{Item, valueIn}
 use Rattle.diagram.specs.Diagram.{edgeAt, root}
 use Rattle.table.specs.Table.{padded, levelsOf, diagramOf}
-use Rattle.table.proofs.Heads.{field}
+use Rattle.files.proofs.Heads.{field}
 use Rattle.table.proofs.Padded.{padded-at, flat-at}
 
 pub value-at : (l : List Item) (k : ℕ) → getD (map (λ (i : Item). i .value) l) k [] ≡ getD l k (field 0 []) .value

@@ -2,10 +2,11 @@
 use Prim.Native.Nat.{ℕ, zero, suc, _+_, _*_, _≤_, _<_, min}
 use native.Mathlib.Nat.{zero-add, suc-add, zero-min, min-zero, suc-min-suc}
 use native.Mathlib.Omega.{arith}
-use mathlib.Core.Path.{_≡_, refl, sym, ap, _∙_}
-use mathlib.Core.List.{List, [], _∷_, _++_, flatMap, append-assoc}
-use lib.ListN.{length, getD, take, drop, set, replicate, length-append, List·getD-append}
-use lib.Seq.{paste, getD-append-add}
+use mathlib.Core.Path.{_≡_, refl, ap, _∙_}
+use mathlib.Core.List.{List, [], _∷_, _++_, flatMap}
+use lib.ListN.{length, getD, take, drop, set, replicate}
+use lib.Seq.{paste}
+use Rattle.fields.proofs.Parts.{length-parts, part-at}
 use Rattle.table.specs.Table.{padded}
 
 pub length-padded : (n : ℕ) (l : List ℕ) → length (padded n l) ≡ n
@@ -26,6 +27,15 @@ pub padded-none : (n : ℕ) → replicate n 0 ≡ padded n []
 unfolding padded
 padded-none zero = refl
 padded-none (suc n) = ap {B = List ℕ} (λ r. 0 ∷ r) (padded-none n)
+
+-- Past the list there is 0.
+pub padded-past : (n : ℕ) (l : List ℕ) (i : ℕ) → length l ≤ i → getD (padded n l) i 0 ≡ 0
+unfolding padded
+padded-past zero l i h = refl
+padded-past (suc n) [] zero h = refl
+padded-past (suc n) [] (suc i) h = padded-past n [] i (omega arith)
+padded-past (suc n) (x ∷ xs) zero h = absurd (omega arith)
+padded-past (suc n) (x ∷ xs) (suc i) h = padded-past n xs i (omega arith)
 
 -- Past the length nothing is seen.
 pub padded-cut : (xs ys : List ℕ) (n : ℕ) → n ≤ length xs → padded n xs ≡ padded n (xs ++ ys)
@@ -80,27 +90,8 @@ pub pasted : (n : ℕ) {l u v : List ℕ} → l ≡ paste (replicate n 0) 0 u (m
 pasted n {l} {u} {v} e f = e ∙ blank-paste n u ∙ ap (padded n) f
 
 -- Levels one after the other, 16 bytes each.
-pub flat-append : (ls ms : List (List ℕ)) → flatMap (padded 16) (ls ++ ms) ≡ flatMap (padded 16) ls ++ flatMap (padded 16) ms
-unfolding flatMap
-flat-append [] ms = refl
-flat-append (l ∷ ls) ms =
-    ap (λ (r : List ℕ). padded 16 l ++ r) (flat-append ls ms)
-    ∙ sym (append-assoc (padded 16 l) (flatMap (padded 16) ls) (flatMap (padded 16) ms))
-
 pub length-flat : (ls : List (List ℕ)) → length (flatMap (padded 16) ls) ≡ length ls * 16
-unfolding flatMap
-length-flat [] = refl
-length-flat (l ∷ ls) =
-    let h = length-padded 16 l in
-    let t = length-flat ls in
-    length-append (padded 16 l) (flatMap (padded 16) ls) ∙ omega arith
+length-flat = length-parts (padded 16) 16 (length-padded 16)
 
 pub flat-at : (ls : List (List ℕ)) (l k : ℕ) → k < 16 → getD (flatMap (padded 16) ls) (l * 16 + k) 0 ≡ getD (getD ls l []) k 0
-unfolding flatMap
-flat-at [] l k h = refl
-flat-at (v ∷ vs) zero k h =
-    rw (zero-add k)
-    (List·getD-append (padded 16 v) (flatMap (padded 16) vs) 0 k (rw (length-padded 16 v) h) ∙ padded-at 16 v k h)
-flat-at (v ∷ vs) (suc l) k h =
-    let e : suc l * 16 + k ≡ length (padded 16 v) + (l * 16 + k) = let p = length-padded 16 v in omega arith in
-    rw e (getD-append-add (padded 16 v) (flatMap (padded 16) vs) (l * 16 + k) 0 ∙ flat-at vs l k h)
+flat-at ls l k h = part-at (padded 16) 16 (length-padded 16) [] (padded-at 16 []) ls l k h ∙ padded-at 16 (getD ls l []) k h

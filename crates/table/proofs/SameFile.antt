@@ -7,7 +7,7 @@ use Rattle.fields.specs.Fields.{encoded}
 use Rattle.diagram.specs.declared.Diagram.{Diagram}
 use Rattle.diagram.specs.Diagram.{width, edgeAt, root}
 use Rattle.table.specs.Encode.{row, tableItems, tableBytes}
-use Rattle.table.proofs.Heads.{field}
+use Rattle.files.proofs.Heads.{field}
 use Rattle.diagram.proofs.Unique.{Same}
 
 row-same : {A : Type 0} (n : ℕ) (f g : ℕ → A) → ((i : ℕ) → i < n → f i ≡ g i) → row n f ≡ row n g

@@ -21,7 +21,8 @@ use Rattle.table.specs.Table.{outputsIn, outputsNumber, areLevels, level
 use Rattle.diagram.proofs.Asked.{width-is}
 use Rattle.table.proofs.Laid.{value-at, width-of}
 use Rattle.table.proofs.Decoded.{half}
-use Rattle.table.proofs.Heads.{counted, listed, value-one, level-at}
+use Rattle.files.proofs.Heads.{counted}
+use Rattle.table.proofs.Heads.{listed, value-one, level-at}
 
 pub record Shaped (file : List ℕ) (d : Diagram) : Type 0 where
   pub framing : fieldsOf file .framing ≡ Whole

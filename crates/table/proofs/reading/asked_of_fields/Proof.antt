@@ -10,7 +10,7 @@ use Rattle.files.specs.declared.header.Contacts.the-variants.{Counted, Uncounte
 use Rattle.table.specs.declared.fit.Outputs.the-variants.{Listed, Unlisted}
 use Rattle.table.specs.declared.fit.Levels.the-variants.{Given, Lacking}
 use Rattle.table.specs.Table.{levelsIn}
-use Rattle.table.proofs.Heads.{counted}
+use Rattle.files.proofs.Heads.{counted}
 use Rattle.table.proofs.Refusals.{fields-by}
 use Rattle.table.proofs.reading.asked_of_fields.Statement.{statement}
 use Rattle.table.proofs.reading.asked_of_fields.Tie as tie
