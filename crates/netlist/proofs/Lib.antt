@@ -4,3 +4,4 @@ pub mod Forms
 pub mod Holds
 pub mod Accepted
 pub mod Files
+pub mod Promises

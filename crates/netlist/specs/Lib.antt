@@ -1,2 +1,3 @@
 pub mod Netlist
 pub mod Questions
+pub mod Promises
