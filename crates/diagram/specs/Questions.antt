@@ -1,7 +1,9 @@
 -- Questions 5 to 8, about a decoded table.
 use Prim.Native.Nat.{ℕ, zero, suc, _*_, _≤_, _<_, max}
+use mathlib.Core.Path.{_≡_}
 use mathlib.Core.Bool.{Bool, true, false, not, _&&_, cond}
 use lib.Dec.{leb, ltb, eqb}
+use lib.ListN.{length, getD}
 use Rattle.fields.specs.Bounded.{all, any}
 use Rattle.diagram.specs.declared.Diagram.{Diagram}
 use Rattle.diagram.specs.declared.sound.Range.{Range}
@@ -19,6 +21,13 @@ pub record Sized (d : Diagram) : Type 0 where
   pub contacts : (1 ≤ d .contacts) × (d .contacts ≤ 12)
   pub outputs : (1 ≤ d .outputs) × (d .outputs ≤ 8)
   pub widths : (l : ℕ) → l < d .contacts → (1 ≤ width d l) × (width d l ≤ 8)
+
+-- The arrays at their full length, with 0 past the outputs, past the levels and past a level's edges.
+pub record Tidy (d : Diagram) : Type 0 where
+  pub lengths : (length (d .roots) ≡ 8) × (length (d .widths) ≡ 12) × (length (d .edges) ≡ 192)
+  pub roots : (j : ℕ) → d .outputs ≤ j → root d j ≡ 0
+  pub widths : (l : ℕ) → d .contacts ≤ l → getD (d .widths) l 0 ≡ 0
+  pub edges : (l k : ℕ) → 2 * getD (d .widths) l 0 ≤ k → k < 16 → edgeAt d l k ≡ 0
 
 -- 5. Does every edge and output name a node that its level has?
 unfoldable pub inRange : Diagram → Bool

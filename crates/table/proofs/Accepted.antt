@@ -39,13 +39,13 @@ first-none zero (suc b) e = absurd (omega arith)
 first-none (suc a) b e = absurd (omega arith)
 
 -- What a diagram that no question refuses passes.
-record Sound (d : Diagram) : Type 0 where
-  ranged : inRange d ≡ true
-  differing : distinct d ≡ true
-  counted : numbered d ≡ true
-  forking : branching d ≡ true
+pub record Sound (d : Diagram) : Type 0 where
+  pub ranged : inRange d ≡ true
+  pub differing : distinct d ≡ true
+  pub counted : numbered d ≡ true
+  pub forking : branching d ≡ true
 
-sound : (d : Diagram) → diagramRefusal d ≡ 0 → Sound d
+pub sound : (d : Diagram) → diagramRefusal d ≡ 0 → Sound d
 unfolding diagramRefusal firstNo
 sound d z = go (inRange d) (distinct d) (numbered d) (branching d) refl refl refl refl z
   where

@@ -11,3 +11,5 @@ pub mod Encode
 pub mod SameFile
 pub mod Promises
 pub mod Lent
+pub mod ReadsBack
+pub mod Tidy

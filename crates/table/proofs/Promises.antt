@@ -4,7 +4,7 @@ use native.Mathlib.Omega.{arith}
 use mathlib.Core.Path.{_≡_, sym, ap, _∙_}
 use mathlib.Core.List.{List}
 use Rattle.diagram.specs.Diagram.{root, inputOf, path, wordAt}
-use Rattle.table.specs.Promises.{Accepted, NodesReached, NodesApart, SameWords, Encoded}
+use Rattle.table.specs.Promises.{Accepted, NodesReached, NodesApart, SameWords, TableWritesBack}
 use Rattle.table.specs.Table.{diagramIn}
 use Rattle.table.proofs.Accepted.{accepted}
 use Rattle.diagram.proofs.Apart.{apart}
@@ -34,8 +34,8 @@ nodes-apart file t l u v h hu hv ne =
     path-same d (inputOf a) x left l w (λ k _ g. same k (omega arith)) in
     (a, ha, λ p. told (sym (along u) ∙ p ∙ along v))
 
-pub encoding : Encoded
-encoding file t = bytes-are file (accepted file (t .1)) (t .0)
+pub table-writes-back : TableWritesBack
+table-writes-back file t = bytes-are file (accepted file (t .1)) (t .0)
 
 reduced : (file : List ℕ) → Accepted file → Reduced (diagramIn file)
 reduced file t =
@@ -48,4 +48,4 @@ same-bytes file other t t' n m words =
     let e = diagramIn other in
     let same = same-words d e (reduced file t) (reduced other t') n m
     (λ a h. words a h ∙ ap (wordAt e (inputOf a)) (sym m)) in
-    sym (encoding file t) ∙ same-file d e n m same ∙ encoding other t'
+    sym (table-writes-back file t) ∙ same-file d e n m same ∙ table-writes-back other t'

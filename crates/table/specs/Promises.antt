@@ -1,11 +1,14 @@
 -- What an accepted table is: every node is in use, no two nodes of a level do the same, and no other file has the same functions.
+-- Diagrams and their files, both ways.
 use Prim.Native.Nat.{ℕ, _^_, _-_, _≤_, _<_}
 use mathlib.Core.Path.{_≡_}
 use mathlib.Core.List.{List}
 use Rattle.fields.specs.Fields.{Bytes}
+use Rattle.diagram.specs.declared.Diagram.{Diagram}
+use Rattle.diagram.specs.Questions.{Sized, Tidy}
 use Rattle.diagram.specs.Diagram.{width, root, inputOf, path, wordAt}
 use Rattle.table.specs.Encode.{tableBytes}
-use Rattle.table.specs.Table.{diagramIn, tableRefusal}
+use Rattle.table.specs.Table.{diagramIn, fieldsRefusal, tableRefusal}
 
 -- A file of bytes is accepted if the table's questions all get a yes.
 abbrev pub Accepted : List ℕ → Type 0
@@ -33,6 +36,14 @@ SameWords =
     d .contacts ≡ e .contacts → d .outputs ≡ e .outputs →
     ((a : ℕ) → a < 2 ^ d .contacts → wordAt d (inputOf a) (d .outputs) ≡ wordAt e (inputOf a) (e .outputs)) → file ≡ other
 
--- An accepted file is the encoding of its diagram.
-abbrev pub Encoded : Type 0
-Encoded = (file : List ℕ) → Accepted file → tableBytes (diagramIn file) ≡ file
+-- What was read is written as it was: an accepted file is the file of its diagram.
+abbrev pub TableWritesBack : Type 0
+TableWritesBack = (file : List ℕ) → Accepted file → tableBytes (diagramIn file) ≡ file
+
+-- What is written reads back as it was: the file of a diagram that keeps the limits passes questions 1 to 4 and holds that diagram.
+abbrev pub TableReadsBack : Type 0
+TableReadsBack = (d : Diagram) → Sized d → Tidy d → (fieldsRefusal (tableBytes d) ≡ 0) × (diagramIn (tableBytes d) ≡ d)
+
+-- These are the diagrams that questions 1 to 4 let through.
+abbrev pub ReadTidy : Type 0
+ReadTidy = (file : List ℕ) → fieldsRefusal file ≡ 0 → Sized (diagramIn file) × Tidy (diagramIn file)
