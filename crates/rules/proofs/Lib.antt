@@ -1,3 +1,4 @@
+pub mod Applied
 pub mod Makes
 pub mod Codes
 pub mod Valuations
@@ -26,4 +27,3 @@ pub mod Shown
 pub mod Halves
 pub mod FileBytes
 pub mod Promises
-pub mod Worked
