@@ -24,4 +24,4 @@ use mathlib.Core.List.{flatMap}
 pub all-starred : AllHold starred
 unfolding all any stepAt valueOf fieldsWithin fieldsFrom fieldsOf encoded contactsIn firstNo width edgeAt root inputOf inRange distinct mention mentions brought numbered branching outputsIn areLevels padded diagramOf fieldsRefusal diagramRefusal tableRefusal listed gatesOf pairsOf holdsOf fileOf drive workOut held valuesOf shownOf areParts formOf isSound areOrdered netlistOf netlistRefusal runRefusal runOf _>>=_ sequence cutWithin cut term orTree joined productEntry product levelMatrix block wholeBlock boardOf depthsOf depthOf codeRails checkedOf buildRefusal buildingOf stuckAt noCode betrays leastFrom probeRefusal probingOf flatMap
 all-starred =
-    (refl, ((refl, refl, refl), ((refl, refl), ((refl, refl), ((refl, refl, refl, refl), ((refl, refl, refl, refl), ((refl, refl), (refl, ((refl, refl, refl), (refl, (refl, (refl, tt))))))))))))
+    (refl, ((refl, refl, refl), ((refl, refl), ((refl, refl), ((refl, refl, refl, refl), ((refl, refl, refl, refl), ((refl, refl), (refl, ((refl, refl, refl), (refl, (refl, (refl, (refl, ((refl, refl, refl), tt))))))))))))))

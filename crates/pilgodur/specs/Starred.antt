@@ -59,6 +59,46 @@ selectorFile =
 abbrev pub single : List ℕ
 single = 1 ∷ 0 ∷ 1 ∷ 1 ∷ 2 ∷ 0 ∷ 1 ∷ 0 ∷ 3 ∷ 0 ∷ 2 ∷ 0 ∷ 1 ∷ []
 
+-- Contact 3 where contacts 0 and 1 choose never, contact 2 open, always, or contact 2 closed; the second output takes contact 0 for
+-- open.
+abbrev pub chooser : List ℕ
+chooser =
+    1 ∷ 0 ∷ 1 ∷ 4 ∷ 2 ∷ 0 ∷ 2 ∷ 0 ∷ 1 ∷ 3 ∷ 0 ∷ 4 ∷ 0 ∷ 1 ∷ 0 ∷ 0 ∷ 3 ∷ 0 ∷ 4 ∷ 0 ∷ 1 ∷ 2 ∷ 3 ∷ 3 ∷ 0 ∷ 8 ∷ 0 ∷ 0 ∷ 1 ∷ 0 ∷ 1 ∷ 1 ∷ 0 ∷ 1 ∷ 3 ∷ 0 ∷ 4 ∷ 0 ∷ 0 ∷ 0 ∷ 1 ∷ []
+
+-- Left block: AND 3 5; AND 3 4; AND 2 5; AND 2 4. Right block: AND 7 9; OR 6 14; AND 7 8; AND 6 9; OR 7 17; AND 6 8.
+-- First row, false: AND 11 15; AND 12 9; AND 13 18; OR 10 20; OR 21 22; OR 23 24.
+-- First row, true: AND 11 16; AND 12 8; AND 13 19; OR 26 27; OR 29 28.
+-- Second row: AND 4 15; OR 5 31; AND 4 16.
+-- True line 30, false line 25; true line 33, false line 32.
+abbrev pub chooserFile : List ℕ
+chooserFile =
+    1 ∷ 0 ∷ 1 ∷ 4 ∷ 4 ∷ 0 ∷ 120
+    ∷ 0 ∷ 0 ∷ 3 ∷ 0 ∷ 5
+    ∷ 0 ∷ 0 ∷ 3 ∷ 0 ∷ 4
+    ∷ 0 ∷ 0 ∷ 2 ∷ 0 ∷ 5
+    ∷ 0 ∷ 0 ∷ 2 ∷ 0 ∷ 4
+    ∷ 0 ∷ 0 ∷ 7 ∷ 0 ∷ 9
+    ∷ 1 ∷ 0 ∷ 6 ∷ 0 ∷ 14
+    ∷ 0 ∷ 0 ∷ 7 ∷ 0 ∷ 8
+    ∷ 0 ∷ 0 ∷ 6 ∷ 0 ∷ 9
+    ∷ 1 ∷ 0 ∷ 7 ∷ 0 ∷ 17
+    ∷ 0 ∷ 0 ∷ 6 ∷ 0 ∷ 8
+    ∷ 0 ∷ 0 ∷ 11 ∷ 0 ∷ 15
+    ∷ 0 ∷ 0 ∷ 12 ∷ 0 ∷ 9
+    ∷ 0 ∷ 0 ∷ 13 ∷ 0 ∷ 18
+    ∷ 1 ∷ 0 ∷ 10 ∷ 0 ∷ 20
+    ∷ 1 ∷ 0 ∷ 21 ∷ 0 ∷ 22
+    ∷ 1 ∷ 0 ∷ 23 ∷ 0 ∷ 24
+    ∷ 0 ∷ 0 ∷ 11 ∷ 0 ∷ 16
+    ∷ 0 ∷ 0 ∷ 12 ∷ 0 ∷ 8
+    ∷ 0 ∷ 0 ∷ 13 ∷ 0 ∷ 19
+    ∷ 1 ∷ 0 ∷ 26 ∷ 0 ∷ 27
+    ∷ 1 ∷ 0 ∷ 29 ∷ 0 ∷ 28
+    ∷ 0 ∷ 0 ∷ 4 ∷ 0 ∷ 15
+    ∷ 1 ∷ 0 ∷ 5 ∷ 0 ∷ 31
+    ∷ 0 ∷ 0 ∷ 4 ∷ 0 ∷ 16
+    ∷ 5 ∷ 0 ∷ 8 ∷ 0 ∷ 30 ∷ 0 ∷ 25 ∷ 0 ∷ 33 ∷ 0 ∷ 32 ∷ []
+
 abbrev pub starred : List Case
 starred =
     checks selector 0 3 1 9 4
@@ -77,4 +117,7 @@ starred =
     ∷ checks (1 ∷ 0 ∷ 1 ∷ 2 ∷ 2 ∷ 0 ∷ 1 ∷ 0 ∷ 3 ∷ 0 ∷ 2 ∷ 0 ∷ 1 ∷ 3 ∷ 0 ∷ 4 ∷ 0 ∷ 1 ∷ 0 ∷ 1 ∷ []) 6 0 0 0 0
     ∷ checks (1 ∷ 0 ∷ 1 ∷ 2 ∷ 2 ∷ 0 ∷ 1 ∷ 0 ∷ 3 ∷ 0 ∷ 2 ∷ 1 ∷ 0 ∷ 3 ∷ 0 ∷ 4 ∷ 0 ∷ 1 ∷ 1 ∷ 0 ∷ []) 7 0 0 0 0
     ∷ checks (1 ∷ 0 ∷ 1 ∷ 2 ∷ 2 ∷ 0 ∷ 1 ∷ 0 ∷ 3 ∷ 0 ∷ 2 ∷ 0 ∷ 0 ∷ 3 ∷ 0 ∷ 2 ∷ 0 ∷ 1 ∷ []) 8 0 0 0 0
+    -- Beyond the starred cases: two rows, both blocks with gates, and ORs of three and four terms.
+    ∷ checks chooser 0 4 2 24 5
+    ∷ builds chooser 138 chooserFile
     ∷ []
