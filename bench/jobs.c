@@ -1,0 +1,134 @@
+#include "jobs.h"
+
+#include <string.h>
+
+struct dice dice = {1};
+struct job job;
+
+static uint8_t *put_two(uint8_t *at, unsigned number)
+{
+    at[0] = (uint8_t)(number / 256);
+    at[1] = (uint8_t)number;
+    return at + 2;
+}
+
+static void set_rails(unsigned contacts, uint32_t input)
+{
+    job.input = input;
+    for (unsigned i = 0; i < contacts; i++) {
+        job.rails[2 * i] = input >> i & 1;
+        job.rails[2 * i + 1] = !(input >> i & 1);
+    }
+}
+
+static void use_diagram(const struct diagram *diagram)
+{
+    job.table_length = table_of(diagram, job.table);
+    job.contacts = diagram->contacts;
+    job.netlist_length = pilgodur_build(job.table, job.table_length, job.netlist, sizeof job.netlist).length;
+    job.gates = pilgodur_check(job.table, job.table_length).gates;
+    job.lines = 2 + 2 * job.contacts + job.gates;
+    job.holds_length = 0;
+    set_rails(job.contacts, 0x5a5 & ((1u << job.contacts) - 1));
+}
+
+void use_largest_board(unsigned contacts)
+{
+    struct diagram d;
+    largest_diagram(&dice, contacts, &d);
+    use_diagram(&d);
+}
+
+void use_random_board(unsigned contacts, unsigned outputs)
+{
+    struct diagram d;
+    random_diagram(&dice, contacts, outputs, &d);
+    use_diagram(&d);
+}
+
+/* Makes the first output the AND of all contacts: its true line held at 0 shows at the last input alone. */
+static void make_shy(struct diagram *d)
+{
+    for (unsigned level = 0; level < d->contacts; level++) {
+        bool last = level + 1 == d->contacts;
+        d->edge[level][0][0] = last ? 0 : 1;
+        d->edge[level][0][1] = last ? 1 : 0;
+        d->edge[level][1][0] = d->edge[level][1][1] = last ? 0 : 1;
+    }
+    d->output[0] = 0;
+    make_canonical(d);
+}
+
+/* Takes the one with the most gates out of many such diagrams. */
+void use_shy_board(unsigned contacts)
+{
+    struct diagram d, best;
+    unsigned most = 0;
+    for (unsigned i = 0; i < 100; i++) {
+        widest_diagram(&dice, contacts, &d);
+        make_shy(&d);
+        use_diagram(&d);
+        if (i == 0 || job.gates > most) {
+            best = d;
+            most = job.gates;
+        }
+    }
+    use_diagram(&best);
+}
+
+void use_random_netlist(unsigned gates)
+{
+    uint8_t *at = job.netlist;
+    unsigned line = 26;
+    memcpy(at, (uint8_t[]){1, 0, 1, 12, 4}, 5);
+    at = put_two(at + 5, 5 * gates);
+    for (; line < 26 + gates; line++) {
+        *at++ = (uint8_t)roll(&dice, 2);
+        at = put_two(put_two(at, roll(&dice, line)), roll(&dice, line));
+    }
+    *at++ = 5;
+    at = put_two(at, 32);
+    for (unsigned k = 0; k < 16; k++)
+        at = put_two(at, roll(&dice, line));
+    job.netlist_length = (size_t)(at - job.netlist);
+    job.contacts = 12;
+    job.gates = gates;
+    job.lines = line;
+    job.holds_length = 0;
+    set_rails(12, 0x5a5);
+}
+
+void hold_lines(unsigned percent)
+{
+    uint8_t *at = job.holds;
+    for (unsigned line = 2; line < job.lines; line++)
+        if (chance(&dice, percent)) {
+            at = put_two(at, line);
+            *at++ = (uint8_t)roll(&dice, 2);
+        }
+    job.holds_length = (size_t)(at - job.holds);
+}
+
+void set_hold(struct job *j, unsigned line, unsigned value)
+{
+    put_two(j->hold, line);
+    j->hold[2] = (uint8_t)value;
+}
+
+uint32_t hold_latest_line(void)
+{
+    static uint8_t buffer[BUFFER];
+    uint32_t latest = 0;
+    uint8_t found[3] = {0, 2, 0};
+    for (unsigned line = 2; line < job.lines; line++)
+        for (unsigned value = 0; value < 2; value++) {
+            set_hold(&job, line, value);
+            pilgodur_probed p = pilgodur_probe(job.table, job.table_length, job.hold, 3, buffer, BUFFER);
+            if (p.input > latest) {
+                latest = p.input;
+                memcpy(found, job.hold, 3);
+            }
+        }
+    memcpy(job.hold, found, 3);
+    return latest;
+}

@@ -1,0 +1,546 @@
+#include "tuned.h"
+
+#include <stdbool.h>
+#include <string.h>
+
+enum { MOST_GATES = 10560 };
+
+/* A table whose edges and outputs are read where the caller's bytes stand. */
+struct table {
+    unsigned contacts, outputs;
+    const uint8_t *output;
+    unsigned width[13];
+    const uint8_t *edge[12];
+};
+
+/* A number of eight bytes, high byte first; five of them are a gate. */
+static uint64_t eight_bytes(const uint8_t *at)
+{
+    uint64_t number;
+    memcpy(&number, at, 8);
+    return __builtin_bswap64(number);
+}
+
+static unsigned two_bytes(const uint8_t *at)
+{
+    return (unsigned)at[0] << 8 | at[1];
+}
+
+/* ---- The table's questions: each level is looked at once for all of them. ---- */
+
+static bool whole_fields(const uint8_t *file, size_t length)
+{
+    size_t at = 0;
+    while (length - at >= 3) {
+        at += 3 + two_bytes(file + at + 1);
+        if (at > length)
+            return false;
+    }
+    return at == length;
+}
+
+/* Questions 2 to 4. A table that passes has whole fields, so question 1 is asked of the others alone. */
+static uint32_t find_fields(const uint8_t *file, size_t length, struct table *t)
+{
+    if (length < 4 || file[0] != 1 || file[1] != 0 || file[2] != 1 || file[3] - 1u > 11)
+        return 2;
+    if (length < 8 || file[4] != 2 || file[5] != 0 || file[6] - 1u > 7)
+        return 3;
+    size_t at = 7 + (size_t)file[6];
+    for (unsigned l = 0; l < file[3]; l++) {
+        if (at + 3 > length || file[at] != 3 || file[at + 1] != 0 || file[at + 2] - 2u > 14 || file[at + 2] % 2 != 0)
+            return 4;
+        t->width[l] = file[at + 2] / 2;
+        t->edge[l] = file + at + 3;
+        at += 3 + (size_t)file[at + 2];
+    }
+    t->contacts = file[3];
+    t->outputs = file[6];
+    t->output = file + 7;
+    t->width[t->contacts] = 2;
+    return at == length ? 0 : 4;
+}
+
+struct faults {
+    bool outside, twins, order, spare;
+};
+
+/* Each mention is of a node that was mentioned, or of the next. */
+static unsigned mention(unsigned node, unsigned mentioned, bool *late)
+{
+    *late |= node > mentioned;
+    return mentioned + (node == mentioned);
+}
+
+static void ask_level(const struct table *t, unsigned l, struct faults *found)
+{
+    const uint8_t *edge = t->edge[l];
+    unsigned after = t->width[l + 1], mentioned = 0, differ = 0;
+    uint64_t pairs = 0;
+    bool late = false;
+    for (unsigned u = 0; u < t->width[l]; u++) {
+        unsigned zero = edge[2 * u], one = edge[2 * u + 1];
+        uint64_t pair = 1ull << ((8 * zero + one) & 63);
+        found->outside |= (zero >= after) | (one >= after);
+        found->twins |= (pairs & pair) != 0;
+        pairs |= pair;
+        differ |= zero ^ one;
+        mentioned = mention(one, mention(zero, mentioned, &late), &late);
+    }
+    found->order |= l + 1 < t->contacts && (late || mentioned != after);
+    found->spare |= differ == 0;
+}
+
+static uint32_t read_table(const uint8_t *file, size_t length, struct table *t)
+{
+    struct faults found = {false, false, false, false};
+    unsigned mentioned = 0;
+    uint32_t refusal = find_fields(file, length, t);
+    if (refusal != 0)
+        return whole_fields(file, length) ? refusal : 1;
+    for (unsigned j = 0; j < t->outputs; j++) {
+        found.outside |= t->output[j] >= t->width[0];
+        mentioned = mention(t->output[j], mentioned, &found.order);
+    }
+    found.order |= mentioned != t->width[0];
+    for (unsigned l = 0; l < t->contacts; l++)
+        ask_level(t, l, &found);
+    return found.outside ? 5 : found.twins ? 6 : found.order ? 7 : found.spare ? 8 : 0;
+}
+
+/* ---- From levels to gates. ---- */
+
+/* An entry is a line: 0 is never, 1 is always. A bit in a row's or a column's mask is set where the entry is not never. */
+struct matrix {
+    uint16_t entry[8][8];
+    uint8_t row[8], column[8];
+};
+
+/* Where the next gate goes, and its line. */
+struct gates {
+    uint8_t *at;
+    unsigned line;
+};
+
+/* The ORs of 2 to 8 terms in their sequence: each puts its line in the place of its first source. */
+static const uint8_t joins[9][7][2] = {
+    [2] = {{0, 1}},
+    [3] = {{0, 1}, {0, 2}},
+    [4] = {{0, 1}, {2, 3}, {0, 2}},
+    [5] = {{0, 1}, {0, 2}, {3, 4}, {0, 3}},
+    [6] = {{0, 1}, {0, 2}, {3, 4}, {3, 5}, {0, 3}},
+    [7] = {{0, 1}, {2, 3}, {0, 2}, {4, 5}, {4, 6}, {0, 4}},
+    [8] = {{0, 1}, {2, 3}, {0, 2}, {4, 5}, {6, 7}, {4, 6}, {0, 4}},
+};
+
+/* Writes eight bytes, of which the next gate or field overwrites three. */
+static uint16_t put_gate(struct gates *g, uint64_t kind, unsigned left, unsigned right)
+{
+    uint64_t bytes = __builtin_bswap64(kind << 56 | (uint64_t)left << 40 | (uint64_t)right << 24);
+    memcpy(g->at, &bytes, 8);
+    g->at += 5;
+    return (uint16_t)g->line++;
+}
+
+/* A term that is always is the only one of its entry, since each input leads from a node to just one other. */
+static uint16_t put_entry(struct gates *g, const struct matrix *left, const struct matrix *right, unsigned u, unsigned v)
+{
+    uint16_t term[8];
+    unsigned count = 0;
+    for (unsigned middle = left->row[u] & right->column[v]; middle != 0; middle &= middle - 1) {
+        unsigned x = (unsigned)__builtin_ctz(middle);
+        uint16_t a = left->entry[u][x], b = right->entry[x][v];
+        term[count++] = a == 1 ? b : b == 1 ? a : put_gate(g, 0, a, b);
+    }
+    for (unsigned i = 0; i + 1 < count; i++) {
+        const uint8_t *join = joins[count][i];
+        term[join[0]] = put_gate(g, 1, term[join[0]], term[join[1]]);
+    }
+    return count == 0 ? 0 : term[0];
+}
+
+static void set_entry(struct matrix *m, unsigned u, unsigned v, uint16_t entry)
+{
+    m->entry[u][v] = entry;
+    m->row[u] |= (uint8_t)((entry != 0) << v);
+    m->column[v] |= (uint8_t)((entry != 0) << u);
+}
+
+static void one_level(const struct table *t, unsigned l, struct matrix *m)
+{
+    memset(m, 0, sizeof *m);
+    for (unsigned u = 0; u < t->width[l]; u++) {
+        unsigned zero = t->edge[l][2 * u], one = t->edge[l][2 * u + 1];
+        set_entry(m, u, zero, (uint16_t)(3 + 2 * l));
+        set_entry(m, u, one, (uint16_t)(zero == one ? 1 : 2 + 2 * l));
+    }
+}
+
+static void put_block(const struct table *t, unsigned l, unsigned k, struct gates *g, struct matrix *m)
+{
+    struct matrix left, right;
+    unsigned cut = l + (k - l + 1) / 2;
+    if (k - l == 1) {
+        one_level(t, l, m);
+        return;
+    }
+    put_block(t, l, cut, g, &left);
+    put_block(t, cut, k, g, &right);
+    memset(m->row, 0, sizeof m->row);
+    memset(m->column, 0, sizeof m->column);
+    for (unsigned u = 0; u < t->width[l]; u++)
+        for (unsigned v = 0; v < t->width[k]; v++)
+            set_entry(m, u, v, put_entry(g, &left, &right, u, v));
+}
+
+static uint8_t *put_two(uint8_t *at, unsigned number)
+{
+    at[0] = (uint8_t)(number >> 8);
+    at[1] = (uint8_t)number;
+    return at + 2;
+}
+
+/* Writes the netlist file to a buffer of PILGODUR_FILE_MAX bytes; returns its length, and the lines that there are. */
+static size_t put_file(const struct table *t, uint8_t *file, unsigned *lines)
+{
+    struct matrix whole;
+    struct gates g = {file + 7, 2 + 2 * t->contacts};
+    put_block(t, 0, t->contacts, &g, &whole);
+    memcpy(file, (uint8_t[]){1, 0, 1, (uint8_t)t->contacts, 4}, 5);
+    put_two(file + 5, (unsigned)(g.at - file - 7));
+    *g.at++ = 5;
+    g.at = put_two(g.at, 4 * t->outputs);
+    for (unsigned j = 0; j < t->outputs; j++)
+        g.at = put_two(put_two(g.at, whole.entry[t->output[j]][1]), whole.entry[t->output[j]][0]);
+    *lines = g.line;
+    return (size_t)(g.at - file);
+}
+
+/* ---- Check: the same products of depths; no gate is written. ---- */
+
+/* An entry is 0 for never, 1 for always, and a line's depth plus 2. */
+struct depths {
+    uint8_t entry[8][8];
+    uint8_t row[8], column[8];
+    unsigned gates, largest;
+};
+
+static unsigned larger(unsigned a, unsigned b)
+{
+    return a > b ? a : b;
+}
+
+static unsigned entry_depth(const struct depths *left, const struct depths *right, unsigned u, unsigned v, unsigned *gates)
+{
+    uint8_t term[8];
+    unsigned count = 0;
+    for (unsigned middle = left->row[u] & right->column[v]; middle != 0; middle &= middle - 1) {
+        unsigned x = (unsigned)__builtin_ctz(middle);
+        unsigned a = left->entry[u][x], b = right->entry[x][v];
+        bool gate = (a > 1) & (b > 1);
+        *gates += gate;
+        term[count++] = (uint8_t)(larger(a, b) + gate);
+    }
+    if (count == 0)
+        return 0;
+    *gates += count - 1;
+    for (unsigned i = 0; i + 1 < count; i++) {
+        const uint8_t *join = joins[count][i];
+        term[join[0]] = (uint8_t)(1 + larger(term[join[0]], term[join[1]]));
+    }
+    return term[0];
+}
+
+static void set_depth(struct depths *m, unsigned u, unsigned v, unsigned depth)
+{
+    m->entry[u][v] = (uint8_t)depth;
+    m->row[u] |= (uint8_t)((depth != 0) << v);
+    m->column[v] |= (uint8_t)((depth != 0) << u);
+    m->largest = larger(m->largest, depth);
+}
+
+/* An entry is as deep as any gate in it, so the entries alone show the largest depth. */
+static void block_depths(const struct table *t, unsigned l, unsigned k, struct depths *m)
+{
+    struct depths left, right;
+    unsigned cut = l + (k - l + 1) / 2;
+    memset(m, 0, sizeof *m);
+    if (k - l == 1) {
+        for (unsigned u = 0; u < t->width[l]; u++) {
+            unsigned zero = t->edge[l][2 * u], one = t->edge[l][2 * u + 1];
+            set_depth(m, u, zero, 2);
+            set_depth(m, u, one, zero == one ? 1 : 2);
+        }
+        return;
+    }
+    block_depths(t, l, cut, &left);
+    block_depths(t, cut, k, &right);
+    m->gates = left.gates + right.gates;
+    m->largest = larger(left.largest, right.largest);
+    for (unsigned u = 0; u < t->width[l]; u++)
+        for (unsigned v = 0; v < t->width[k]; v++)
+            set_depth(m, u, v, entry_depth(&left, &right, u, v, &m->gates));
+}
+
+/* ---- Services on tables. ---- */
+
+pilgodur_checked tuned_check(const uint8_t *table, size_t table_len)
+{
+    struct table t;
+    struct depths whole;
+    uint32_t refusal = read_table(table, table_len, &t);
+    if (refusal != 0)
+        return (pilgodur_checked){refusal, 0, 0, 0, 0};
+    block_depths(&t, 0, t.contacts, &whole);
+    return (pilgodur_checked){0, t.contacts, t.outputs, whole.gates, whole.largest - 2};
+}
+
+pilgodur_built tuned_build(const uint8_t *table, size_t table_len, uint8_t *file, size_t file_len)
+{
+    uint8_t made[PILGODUR_FILE_MAX];
+    struct table t;
+    unsigned lines;
+    uint32_t refusal = read_table(table, table_len, &t);
+    if (refusal != 0)
+        return (pilgodur_built){refusal, 0};
+    if (file_len >= PILGODUR_FILE_MAX) /* long enough for every file, so none is made aside */
+        return (pilgodur_built){0, (uint32_t)put_file(&t, file, &lines)};
+    size_t length = put_file(&t, made, &lines);
+    if (file_len < length)
+        return (pilgodur_built){9, 0};
+    memcpy(file, made, length);
+    return (pilgodur_built){0, (uint32_t)length};
+}
+
+/* All outputs go down the levels together. */
+pilgodur_reading tuned_read_off(const uint8_t *table, size_t table_len, uint32_t input)
+{
+    struct table t;
+    uint32_t refusal = read_table(table, table_len, &t);
+    if (refusal != 0)
+        return (pilgodur_reading){refusal, 0};
+    if (input >> t.contacts != 0)
+        return (pilgodur_reading){10, 0};
+    uint8_t node[8];
+    uint32_t word = 0;
+    memcpy(node, t.output, t.outputs);
+    for (unsigned i = 0; i < t.contacts; i++) {
+        const uint8_t *edge = t.edge[i] + (input >> i & 1);
+        for (unsigned j = 0; j < t.outputs; j++)
+            node[j] = edge[2 * node[j]];
+    }
+    for (unsigned j = 0; j < t.outputs; j++)
+        word |= (uint32_t)node[j] << j;
+    return (pilgodur_reading){0, word};
+}
+
+/* ---- Run: no branch on a gate. ---- */
+
+static bool netlist_fields(const uint8_t *file, size_t length, unsigned *gates, unsigned *outputs)
+{
+    if (length < 7 || file[0] != 1 || file[1] != 0 || file[2] != 1 || file[3] - 1u > 11 || file[4] != 4)
+        return false;
+    size_t gate_bytes = two_bytes(file + 5);
+    if (gate_bytes % 5 != 0 || gate_bytes > 5 * MOST_GATES || length < 10 + gate_bytes)
+        return false;
+    const uint8_t *last = file + 7 + gate_bytes;
+    size_t output_bytes = two_bytes(last + 1);
+    if (last[0] != 5 || output_bytes % 4 != 0 || output_bytes < 4 || output_bytes > 32)
+        return false;
+    *gates = (unsigned)gate_bytes / 5;
+    *outputs = (unsigned)output_bytes / 4;
+    return length == 10 + gate_bytes + output_bytes;
+}
+
+/* Reads three bytes past the last gate: the outputs' tag and length. */
+static bool gates_good(const uint8_t *gate, unsigned first, unsigned lines)
+{
+    bool bad = false;
+    for (unsigned line = first; line < lines; line++, gate += 5) {
+        uint64_t bytes = eight_bytes(gate);
+        bad |= (bytes >> 56 > 1) | ((bytes >> 40 & 0xffff) >= line) | ((bytes >> 24 & 0xffff) >= line);
+    }
+    return !bad;
+}
+
+static bool outputs_good(const uint8_t *output, unsigned outputs, unsigned lines)
+{
+    bool bad = false;
+    for (unsigned k = 0; k < 2 * outputs; k++)
+        bad |= two_bytes(output + 2 * k) >= lines;
+    return !bad;
+}
+
+static bool rails_good(const uint8_t *rails, unsigned count)
+{
+    uint8_t any = 0;
+    for (unsigned i = 0; i < count; i++)
+        any |= rails[i];
+    return any <= 1;
+}
+
+static bool holds_good(const uint8_t *holds, size_t length, unsigned lines)
+{
+    unsigned least = 2;
+    bool bad = length % 3 != 0;
+    for (size_t h = 0; h + 3 <= length; h += 3) {
+        unsigned line = two_bytes(holds + h);
+        bad |= (line < least) | (line >= lines) | (holds[h + 2] > 1);
+        least = line + 1;
+    }
+    return !bad;
+}
+
+/* Works out the gates of some lines. */
+static void work_out(const uint8_t *gates, unsigned first, unsigned from, unsigned to, uint8_t *lines)
+{
+    const uint8_t *gate = gates + 5 * (size_t)(from - first);
+    for (unsigned line = from; line < to; line++, gate += 5) {
+        uint64_t bytes = eight_bytes(gate);
+        uint8_t a = lines[bytes >> 40 & 0xffff], b = lines[bytes >> 24 & 0xffff];
+        lines[line] = (uint8_t)((a & b) | ((a | b) & bytes >> 56));
+    }
+}
+
+/* Works out the lines from one held line to the next. */
+static void work_out_all(const uint8_t *gates, unsigned first, unsigned count, const uint8_t *holds, size_t holds_len,
+                         uint8_t *lines)
+{
+    unsigned next = first;
+    for (size_t h = 0; h < holds_len; h += 3) {
+        unsigned line = two_bytes(holds + h);
+        if (line >= first) {
+            work_out(gates, first, next, line, lines);
+            next = line + 1;
+        }
+        lines[line] = holds[h + 2];
+    }
+    work_out(gates, first, next, count, lines);
+}
+
+uint32_t tuned_run(const uint8_t *netlist, size_t netlist_len, const uint8_t *rails, size_t rails_len,
+                   const uint8_t *holds, size_t holds_len, uint8_t *lines, size_t lines_len,
+                   uint8_t *pairs, size_t pairs_len)
+{
+    unsigned gates, outputs;
+    if (!netlist_fields(netlist, netlist_len, &gates, &outputs))
+        return 11;
+    unsigned first = 2 + 2u * netlist[3], count = first + gates;
+    const uint8_t *output = netlist + 10 + 5 * (size_t)gates;
+    if (!gates_good(netlist + 7, first, count) || !outputs_good(output, outputs, count))
+        return 12;
+    if (rails_len != first - 2 || !rails_good(rails, first - 2))
+        return 13;
+    if (!holds_good(holds, holds_len, count))
+        return 14;
+    if (lines_len < count || pairs_len < 2 * outputs)
+        return 9;
+    lines[0] = 0;
+    lines[1] = 1;
+    memcpy(lines + 2, rails, rails_len);
+    work_out_all(netlist + 7, first, count, holds, holds_len, lines);
+    for (unsigned k = 0; k < 2 * outputs; k++)
+        pairs[k] = lines[two_bytes(output + 2 * k)];
+    return 0;
+}
+
+/* ---- Probe: 64 inputs to a word. ---- */
+
+struct gate {
+    uint16_t left, right;
+    uint32_t kind;
+};
+
+struct search {
+    unsigned first, lines;
+    struct gate gate[MOST_GATES];
+    uint64_t word[PILGODUR_LINES_MAX];
+};
+
+/* Bit i of the six lowest contacts at the 64 inputs of a word; a higher contact has one value in all of a word. */
+static const uint64_t low_contact[6] = {
+    0xaaaaaaaaaaaaaaaa, 0xcccccccccccccccc, 0xf0f0f0f0f0f0f0f0, 0xff00ff00ff00ff00, 0xffff0000ffff0000, 0xffffffff00000000,
+};
+
+static void take_gates(struct search *s, const uint8_t *file)
+{
+    for (unsigned g = 0; g < s->lines - s->first; g++) {
+        uint64_t bytes = eight_bytes(file + 7 + 5 * (size_t)g);
+        s->gate[g] = (struct gate){(uint16_t)(bytes >> 40), (uint16_t)(bytes >> 24), (uint32_t)(bytes >> 56)};
+    }
+}
+
+static void put_rails(struct search *s, unsigned contacts, uint32_t input)
+{
+    s->word[0] = 0;
+    s->word[1] = ~0ull;
+    for (unsigned i = 0; i < contacts; i++) {
+        uint64_t on = i < 6 ? low_contact[i] : -(uint64_t)(input >> i & 1);
+        s->word[2 + 2 * i] = on;
+        s->word[3 + 2 * i] = ~on;
+    }
+}
+
+static void put_words(struct search *s, unsigned from, unsigned to)
+{
+    for (unsigned line = from; line < to; line++) {
+        const struct gate *g = &s->gate[line - s->first];
+        uint64_t a = s->word[g->left], b = s->word[g->right];
+        s->word[line] = (a & b) | ((a | b) & -(uint64_t)g->kind);
+    }
+}
+
+/* At which of the 64 inputs the pair of an output is no code. */
+static uint64_t no_code(const struct search *s, const uint8_t *pair)
+{
+    return ~(s->word[two_bytes(pair)] ^ s->word[two_bytes(pair + 2)]);
+}
+
+/* The first input of the first word at which some pair is no code, from the words of an accepted table: there is one. */
+static uint32_t find_input(struct search *s, const struct table *t, const uint8_t *pairs, unsigned held, uint64_t held_at)
+{
+    for (uint32_t input = 0;; input += 64) {
+        uint64_t shown = 0;
+        put_rails(s, t->contacts, input);
+        if (held >= s->first)
+            put_words(s, s->first, held);
+        s->word[held] = held_at;
+        put_words(s, held >= s->first ? held + 1 : s->first, s->lines);
+        for (unsigned j = 0; j < t->outputs; j++)
+            shown |= no_code(s, pairs + 4 * j);
+        if (shown != 0)
+            return input + (uint32_t)__builtin_ctzll(shown);
+    }
+}
+
+static pilgodur_probed search(struct search *s, const struct table *t, const uint8_t *pairs, const uint8_t *hold,
+                              uint8_t *values)
+{
+    uint32_t input = find_input(s, t, pairs, two_bytes(hold), -(uint64_t)hold[2]);
+    unsigned bit = input % 64, j = 0;
+    while ((no_code(s, pairs + 4 * j) >> bit & 1) == 0)
+        j++;
+    for (unsigned line = 0; line < s->lines; line++)
+        values[line] = s->word[line] >> bit & 1;
+    return (pilgodur_probed){0, input, j, s->word[two_bytes(pairs + 4 * j)] >> bit & 1};
+}
+
+pilgodur_probed tuned_probe(const uint8_t *table, size_t table_len, const uint8_t *hold, size_t hold_len,
+                            uint8_t *buffer, size_t buffer_len)
+{
+    uint8_t made[PILGODUR_FILE_MAX];
+    struct table t;
+    struct search s;
+    uint32_t refusal = read_table(table, table_len, &t);
+    if (refusal != 0)
+        return (pilgodur_probed){refusal, 0, 0, 0};
+    size_t length = put_file(&t, made, &s.lines);
+    if (hold_len != 3 || !holds_good(hold, hold_len, s.lines))
+        return (pilgodur_probed){14, 0, 0, 0};
+    if (buffer_len < length + s.lines)
+        return (pilgodur_probed){9, 0, 0, 0};
+    s.first = 2 + 2 * t.contacts;
+    take_gates(&s, made);
+    memcpy(buffer, made, length);
+    return search(&s, &t, buffer + length - 4 * t.outputs, hold, buffer + length);
+}

@@ -1,0 +1,16 @@
+/* The same five services in C written for speed, for the benchmark to measure against. For little-endian machines. */
+#ifndef TUNED_H
+#define TUNED_H
+
+#include "../include/pilgodur.h"
+
+pilgodur_checked tuned_check(const uint8_t *table, size_t table_len);
+pilgodur_built tuned_build(const uint8_t *table, size_t table_len, uint8_t *file, size_t file_len);
+pilgodur_reading tuned_read_off(const uint8_t *table, size_t table_len, uint32_t input);
+uint32_t tuned_run(const uint8_t *netlist, size_t netlist_len, const uint8_t *rails, size_t rails_len,
+                   const uint8_t *holds, size_t holds_len, uint8_t *lines, size_t lines_len,
+                   uint8_t *pairs, size_t pairs_len);
+pilgodur_probed tuned_probe(const uint8_t *table, size_t table_len, const uint8_t *hold, size_t hold_len,
+                            uint8_t *buffer, size_t buffer_len);
+
+#endif
