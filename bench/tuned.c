@@ -13,14 +13,6 @@ struct table {
     const uint8_t *edge[12];
 };
 
-/* A number of eight bytes, high byte first; five of them are a gate. */
-static uint64_t eight_bytes(const uint8_t *at)
-{
-    uint64_t number;
-    memcpy(&number, at, 8);
-    return __builtin_bswap64(number);
-}
-
 static unsigned two_bytes(const uint8_t *at)
 {
     return (unsigned)at[0] << 8 | at[1];
@@ -334,7 +326,7 @@ pilgodur_reading tuned_read_off(const uint8_t *table, size_t table_len, uint32_t
     return (pilgodur_reading){0, word};
 }
 
-/* ---- Run: no branch on a gate. ---- */
+/* ---- Run: the gates are checked and worked out in one pass, into an array aside; no branch hangs on a value. ---- */
 
 static bool netlist_fields(const uint8_t *file, size_t length, unsigned *gates, unsigned *outputs)
 {
@@ -352,29 +344,18 @@ static bool netlist_fields(const uint8_t *file, size_t length, unsigned *gates, 
     return length == 10 + gate_bytes + output_bytes;
 }
 
-/* Reads three bytes past the last gate: the outputs' tag and length. */
-static bool gates_good(const uint8_t *gate, unsigned first, unsigned lines)
-{
-    bool bad = false;
-    for (unsigned line = first; line < lines; line++, gate += 5) {
-        uint64_t bytes = eight_bytes(gate);
-        bad |= (bytes >> 56 > 1) | ((bytes >> 40 & 0xffff) >= line) | ((bytes >> 24 & 0xffff) >= line);
-    }
-    return !bad;
-}
-
 static bool outputs_good(const uint8_t *output, unsigned outputs, unsigned lines)
 {
-    bool bad = false;
     for (unsigned k = 0; k < 2 * outputs; k++)
-        bad |= two_bytes(output + 2 * k) >= lines;
-    return !bad;
+        if (two_bytes(output + 2 * k) >= lines)
+            return false;
+    return true;
 }
 
-static bool rails_good(const uint8_t *rails, unsigned count)
+static bool rails_good(const uint8_t *rails, size_t count)
 {
     uint8_t any = 0;
-    for (unsigned i = 0; i < count; i++)
+    for (size_t i = 0; i < count; i++)
         any |= rails[i];
     return any <= 1;
 }
@@ -382,147 +363,162 @@ static bool rails_good(const uint8_t *rails, unsigned count)
 static bool holds_good(const uint8_t *holds, size_t length, unsigned lines)
 {
     unsigned least = 2;
-    bool bad = length % 3 != 0;
-    for (size_t h = 0; h + 3 <= length; h += 3) {
-        unsigned line = two_bytes(holds + h);
-        bad |= (line < least) | (line >= lines) | (holds[h + 2] > 1);
+    if (length % 3 != 0)
+        return false;
+    for (const uint8_t *end = holds + length; holds < end; holds += 3) {
+        unsigned line = two_bytes(holds);
+        if (line < least || holds[2] > 1)
+            return false;
         least = line + 1;
     }
-    return !bad;
+    return least <= lines;
 }
 
-/* Works out the gates of some lines. */
-static void work_out(const uint8_t *gates, unsigned first, unsigned from, unsigned to, uint8_t *lines)
+/* The mark of a line that is held is 2 more than its value; the others have 0. */
+static void mark_holds(const uint8_t *holds, size_t length, uint8_t *mark)
 {
-    const uint8_t *gate = gates + 5 * (size_t)(from - first);
-    for (unsigned line = from; line < to; line++, gate += 5) {
-        uint64_t bytes = eight_bytes(gate);
-        uint8_t a = lines[bytes >> 40 & 0xffff], b = lines[bytes >> 24 & 0xffff];
-        lines[line] = (uint8_t)((a & b) | ((a | b) & bytes >> 56));
-    }
+    for (const uint8_t *end = holds + length; holds < end; holds += 3)
+        mark[two_bytes(holds)] = (uint8_t)(2 + holds[2]);
 }
 
-/* Works out the lines from one held line to the next. */
-static void work_out_all(const uint8_t *gates, unsigned first, unsigned count, const uint8_t *holds, size_t holds_len,
-                         uint8_t *lines)
+static uint8_t show(uint8_t mark, uint8_t made)
 {
-    unsigned next = first;
-    for (size_t h = 0; h < holds_len; h += 3) {
-        unsigned line = two_bytes(holds + h);
-        if (line >= first) {
-            work_out(gates, first, next, line, lines);
-            next = line + 1;
-        }
-        lines[line] = holds[h + 2];
-    }
-    work_out(gates, first, next, count, lines);
+    return mark != 0 ? mark & 1 : made;
 }
 
+/* Works out the gates as long as they are good. A gate is the majority of its sources and its kind. */
+static bool work_out(const uint8_t *gate, unsigned first, unsigned count, const uint8_t *mark, uint8_t *value)
+{
+    for (unsigned line = first; line < count; line++, gate += 5) {
+        unsigned left = two_bytes(gate + 1), right = two_bytes(gate + 3);
+        if (gate[0] > 1 || left >= line || right >= line)
+            return false;
+        value[line] = show(mark[line], (uint8_t)((value[left] + value[right] + gate[0]) >> 1));
+    }
+    return true;
+}
+
+/* Question 12 is asked while the lines are worked out; so 13, 14 and 9 are asked before, and answered after it. */
 uint32_t tuned_run(const uint8_t *netlist, size_t netlist_len, const uint8_t *rails, size_t rails_len,
                    const uint8_t *holds, size_t holds_len, uint8_t *lines, size_t lines_len,
                    uint8_t *pairs, size_t pairs_len)
 {
+    uint8_t value[PILGODUR_LINES_MAX], mark[PILGODUR_LINES_MAX];
     unsigned gates, outputs;
     if (!netlist_fields(netlist, netlist_len, &gates, &outputs))
         return 11;
     unsigned first = 2 + 2u * netlist[3], count = first + gates;
     const uint8_t *output = netlist + 10 + 5 * (size_t)gates;
-    if (!gates_good(netlist + 7, first, count) || !outputs_good(output, outputs, count))
+    bool driven = rails_len == first - 2 && rails_good(rails, first - 2);
+    bool ordered = holds_good(holds, holds_len, count);
+    memset(mark, 0, count);
+    if (ordered)
+        mark_holds(holds, holds_len, mark);
+    value[0] = 0;
+    value[1] = 1;
+    for (unsigned line = 2; line < first; line++)
+        value[line] = show(mark[line], driven ? rails[line - 2] : 0);
+    if (!work_out(netlist + 7, first, count, mark, value) || !outputs_good(output, outputs, count))
         return 12;
-    if (rails_len != first - 2 || !rails_good(rails, first - 2))
-        return 13;
-    if (!holds_good(holds, holds_len, count))
-        return 14;
+    if (!driven || !ordered)
+        return driven ? 14 : 13;
     if (lines_len < count || pairs_len < 2 * outputs)
         return 9;
-    lines[0] = 0;
-    lines[1] = 1;
-    memcpy(lines + 2, rails, rails_len);
-    work_out_all(netlist + 7, first, count, holds, holds_len, lines);
+    memcpy(lines, value, count);
     for (unsigned k = 0; k < 2 * outputs; k++)
-        pairs[k] = lines[two_bytes(output + 2 * k)];
+        pairs[k] = value[two_bytes(output + 2 * k)];
     return 0;
 }
 
-/* ---- Probe: 64 inputs to a word. ---- */
+/* ---- Probe: words of 64 inputs. ---- */
+
+enum { WORDS = 2, INPUTS = 64 * WORDS };
+
+/* Two words side by side, for the machine's vector instructions: of 1, 2, 4 and 8 the fastest on x86-64 without AVX. */
+typedef uint64_t words __attribute__((vector_size(8 * WORDS)));
 
 struct gate {
-    uint16_t left, right;
-    uint32_t kind;
+    uint16_t left, right, kind;
 };
 
 struct search {
     unsigned first, lines;
     struct gate gate[MOST_GATES];
-    uint64_t word[PILGODUR_LINES_MAX];
+    words value[PILGODUR_LINES_MAX];
 };
 
-/* Bit i of the six lowest contacts at the 64 inputs of a word; a higher contact has one value in all of a word. */
+/* The six lowest contacts at the 64 inputs of a word; a higher contact has one value in all of a word. */
 static const uint64_t low_contact[6] = {
     0xaaaaaaaaaaaaaaaa, 0xcccccccccccccccc, 0xf0f0f0f0f0f0f0f0, 0xff00ff00ff00ff00, 0xffff0000ffff0000, 0xffffffff00000000,
 };
 
-static void take_gates(struct search *s, const uint8_t *file)
+static void take_gates(struct search *s, const uint8_t *gate)
 {
-    for (unsigned g = 0; g < s->lines - s->first; g++) {
-        uint64_t bytes = eight_bytes(file + 7 + 5 * (size_t)g);
-        s->gate[g] = (struct gate){(uint16_t)(bytes >> 40), (uint16_t)(bytes >> 24), (uint32_t)(bytes >> 56)};
-    }
+    for (unsigned g = 0; g < s->lines - s->first; g++, gate += 5)
+        s->gate[g] = (struct gate){(uint16_t)two_bytes(gate + 1), (uint16_t)two_bytes(gate + 3), gate[0]};
 }
 
 static void put_rails(struct search *s, unsigned contacts, uint32_t input)
 {
-    s->word[0] = 0;
-    s->word[1] = ~0ull;
+    s->value[0] = (words){0};
+    s->value[1] = ~s->value[0];
     for (unsigned i = 0; i < contacts; i++) {
-        uint64_t on = i < 6 ? low_contact[i] : -(uint64_t)(input >> i & 1);
-        s->word[2 + 2 * i] = on;
-        s->word[3 + 2 * i] = ~on;
+        words *on = &s->value[2 + 2 * i];
+        for (unsigned k = 0; k < WORDS; k++)
+            (*on)[k] = i < 6 ? low_contact[i] : -(uint64_t)((input + 64 * k) >> i & 1);
+        on[1] = ~on[0];
     }
 }
 
-static void put_words(struct search *s, unsigned from, unsigned to)
+/* A gate is the majority of its sources and of the constant that its kind numbers. */
+static void put_gates(struct search *s, unsigned from, unsigned to)
 {
     for (unsigned line = from; line < to; line++) {
         const struct gate *g = &s->gate[line - s->first];
-        uint64_t a = s->word[g->left], b = s->word[g->right];
-        s->word[line] = (a & b) | ((a | b) & -(uint64_t)g->kind);
+        words a = s->value[g->left], b = s->value[g->right];
+        s->value[line] = (a & b) | ((a | b) & s->value[g->kind]);
     }
 }
 
-/* At which of the 64 inputs the pair of an output is no code. */
-static uint64_t no_code(const struct search *s, const uint8_t *pair)
+static void put_lines(struct search *s, unsigned contacts, uint32_t input, unsigned held, unsigned held_at)
 {
-    return ~(s->word[two_bytes(pair)] ^ s->word[two_bytes(pair + 2)]);
+    put_rails(s, contacts, input);
+    if (held >= s->first)
+        put_gates(s, s->first, held);
+    s->value[held] = s->value[held_at];
+    put_gates(s, held >= s->first ? held + 1 : s->first, s->lines);
 }
 
-/* The first input of the first word at which some pair is no code, from the words of an accepted table: there is one. */
-static uint32_t find_input(struct search *s, const struct table *t, const uint8_t *pairs, unsigned held, uint64_t held_at)
+/* Bit i of word k tells whether the pair of an output is no code at input 64k + i. */
+static words no_code(const struct search *s, const uint8_t *pair)
 {
-    for (uint32_t input = 0;; input += 64) {
-        uint64_t shown = 0;
-        put_rails(s, t->contacts, input);
-        if (held >= s->first)
-            put_words(s, s->first, held);
-        s->word[held] = held_at;
-        put_words(s, held >= s->first ? held + 1 : s->first, s->lines);
+    return ~(s->value[two_bytes(pair)] ^ s->value[two_bytes(pair + 2)]);
+}
+
+/* The first input at which some pair is no code. An accepted table has one for every line, so the search ends. */
+static uint32_t find_input(struct search *s, const struct table *t, const uint8_t *pairs, const uint8_t *hold)
+{
+    for (uint32_t input = 0;; input += INPUTS) {
+        words shown = {0};
+        put_lines(s, t->contacts, input, two_bytes(hold), hold[2]);
         for (unsigned j = 0; j < t->outputs; j++)
             shown |= no_code(s, pairs + 4 * j);
-        if (shown != 0)
-            return input + (uint32_t)__builtin_ctzll(shown);
+        for (unsigned k = 0; k < WORDS; k++)
+            if (shown[k] != 0)
+                return input + 64 * k + (uint32_t)__builtin_ctzll(shown[k]);
     }
 }
 
 static pilgodur_probed search(struct search *s, const struct table *t, const uint8_t *pairs, const uint8_t *hold,
-                              uint8_t *values)
+                              uint8_t *lines)
 {
-    uint32_t input = find_input(s, t, pairs, two_bytes(hold), -(uint64_t)hold[2]);
-    unsigned bit = input % 64, j = 0;
-    while ((no_code(s, pairs + 4 * j) >> bit & 1) == 0)
+    uint32_t input = find_input(s, t, pairs, hold);
+    unsigned k = input % INPUTS / 64, bit = input % 64, j = 0;
+    while ((no_code(s, pairs + 4 * j)[k] >> bit & 1) == 0)
         j++;
     for (unsigned line = 0; line < s->lines; line++)
-        values[line] = s->word[line] >> bit & 1;
-    return (pilgodur_probed){0, input, j, s->word[two_bytes(pairs + 4 * j)] >> bit & 1};
+        lines[line] = s->value[line][k] >> bit & 1;
+    return (pilgodur_probed){0, input, j, hold[2]};
 }
 
 pilgodur_probed tuned_probe(const uint8_t *table, size_t table_len, const uint8_t *hold, size_t hold_len,
@@ -540,7 +536,7 @@ pilgodur_probed tuned_probe(const uint8_t *table, size_t table_len, const uint8_
     if (buffer_len < length + s.lines)
         return (pilgodur_probed){9, 0, 0, 0};
     s.first = 2 + 2 * t.contacts;
-    take_gates(&s, made);
+    take_gates(&s, made + 7);
     memcpy(buffer, made, length);
     return search(&s, &t, buffer + length - 4 * t.outputs, hold, buffer + length);
 }
