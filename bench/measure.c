@@ -6,15 +6,26 @@
 #include <string.h>
 #include <time.h>
 
+enum { MOST_ROWS = 40, MOST_JOBS = 60 };
+
+struct row {
+    char name[80];
+    work *work;
+    unsigned units;
+    const struct job *jobs; /* the calls take turns on these */
+    unsigned job_count;
+    unsigned long calls[SIDES]; /* in a round */
+    double least[SIDES];        /* seconds for one call, in the fastest round */
+};
+
 uint8_t written[SIDES][BUFFER];
+static struct row rows[MOST_ROWS];
+static unsigned row_count;
+static struct job jobs[MOST_JOBS];
+static unsigned job_count;
 static uint64_t sum;
 
-uint64_t sum_of_answers(void)
-{
-    return sum;
-}
-
-/* Processor time of this process: what others run meanwhile is not in it. */
+/* Processor time of this process: the time that others run is not in it. */
 static double now(void)
 {
     struct timespec t;
@@ -22,71 +33,93 @@ static double now(void)
     return (double)t.tv_sec + 1e-9 * (double)t.tv_nsec;
 }
 
-static double time_calls(work *work, enum side side, unsigned long calls)
+static double time_calls(const struct row *row, enum side side, unsigned long calls)
 {
     double start = now();
     for (unsigned long i = 0; i < calls; i++)
-        sum += work(side, &job);
+        sum += row->work(side, &row->jobs[i % row->job_count]);
     return now() - start;
 }
 
-/* How many calls take some 2 milliseconds; at least one. */
-static unsigned long calls_for_a_round(work *work, enum side side)
-{
-    unsigned long calls = 1;
-    while (time_calls(work, side, calls) < 0.002)
-        calls *= 2;
-    return calls;
-}
-
-static void same_answers(const char *name, work *work)
+static void compare_answers(const struct row *row, const struct job *each)
 {
     uint64_t answer[SIDES];
     memset(written, 0x55, sizeof written);
     for (unsigned side = 0; side < SIDES; side++)
-        answer[side] = work((enum side)side, &job);
+        answer[side] = row->work((enum side)side, each);
     for (unsigned side = 0; side < LIBRARY; side++)
         if (answer[side] != answer[LIBRARY] || memcmp(written[side], written[LIBRARY], BUFFER) != 0) {
-            printf("%s: the library and %s C give different answers\n", name, side == PLAIN ? "plain" : "tuned");
+            printf("%s: the library and %s C give different answers\n", row->name, side == PLAIN ? "plain" : "tuned");
             exit(1);
         }
 }
 
-static int rising(const void *a, const void *b)
+void add_job(void)
 {
-    double x = *(const double *)a, y = *(const double *)b;
-    return (x > y) - (x < y);
-}
-
-static double median(double *number, unsigned count)
-{
-    qsort(number, count, sizeof *number, rising);
-    return number[count / 2];
-}
-
-void print_heading(void)
-{
-    printf("| %-50s | plain C, us | tuned C, us | library, us | to plain | to tuned |\n", "call");
-    printf("|---|---|---|---|---|---|\n");
-}
-
-/* The sides take turns in every round. Long work gets fewer rounds, but five at least. */
-void measure(const char *name, work *work, unsigned units)
-{
-    static double each[SIDES][ROUNDS], to_plain[ROUNDS], to_tuned[ROUNDS];
-    unsigned long calls[SIDES];
-    unsigned rounds = 0;
-    same_answers(name, work);
-    for (unsigned side = 0; side < SIDES; side++)
-        calls[side] = calls_for_a_round(work, (enum side)side);
-    for (double start = now(); rounds < ROUNDS && (rounds < 5 || now() - start < 1.5); rounds++) {
-        for (unsigned side = 0; side < SIDES; side++)
-            each[side][rounds] = time_calls(work, (enum side)side, calls[side]) / (double)calls[side] / units;
-        to_plain[rounds] = each[LIBRARY][rounds] / each[PLAIN][rounds];
-        to_tuned[rounds] = each[LIBRARY][rounds] / each[TUNED][rounds];
+    if (job_count == MOST_JOBS) {
+        printf("more than %d jobs\n", MOST_JOBS);
+        exit(1);
     }
-    printf("| %-50s | %11.3f | %11.3f | %11.3f | %8.3f | %8.2f |\n", name, 1e6 * median(each[PLAIN], rounds),
-           1e6 * median(each[TUNED], rounds), 1e6 * median(each[LIBRARY], rounds), median(to_plain, rounds),
-           median(to_tuned, rounds));
-    fflush(stdout);
+    struct row *row = &rows[row_count - 1];
+    jobs[job_count] = job;
+    compare_answers(row, &jobs[job_count++]);
+    row->job_count++;
+}
+
+void add_row(const char *name, work *work, unsigned units)
+{
+    if (row_count == MOST_ROWS) {
+        printf("more than %d rows\n", MOST_ROWS);
+        exit(1);
+    }
+    struct row *row = &rows[row_count++];
+    snprintf(row->name, sizeof row->name, "%s", name);
+    row->work = work;
+    row->units = units;
+    row->jobs = &jobs[job_count];
+    add_job();
+}
+
+/* A round has as many calls as take some 2 milliseconds; at least one on each job. */
+static void set_calls(struct row *row, enum side side)
+{
+    unsigned long calls = row->job_count;
+    while (time_calls(row, side, calls) < 0.002)
+        calls *= 2;
+    row->calls[side] = calls;
+    row->least[side] = 1e9;
+}
+
+static void measure_round(struct row *row)
+{
+    for (unsigned side = 0; side < SIDES; side++) {
+        double calls = (double)row->calls[side] * row->units;
+        double each = time_calls(row, (enum side)side, row->calls[side]) / calls;
+        if (each < row->least[side])
+            row->least[side] = each;
+    }
+}
+
+static void print_rows(void)
+{
+    printf("| %-56s | plain C, us | tuned C, us | library, us | to plain | to tuned |\n", "call");
+    printf("|---|---|---|---|---|---|\n");
+    for (unsigned r = 0; r < row_count; r++) {
+        const double *least = rows[r].least;
+        printf("| %-56s | %11.2f | %11.2f | %11.2f | %8.2g | %8.2g |\n", rows[r].name, 1e6 * least[PLAIN], 1e6 * least[TUNED],
+               1e6 * least[LIBRARY], least[LIBRARY] / least[PLAIN], least[LIBRARY] / least[TUNED]);
+    }
+}
+
+/* Each round goes through all rows and sides, so the rounds of a row are spread over the whole time. */
+uint64_t measure_rows(void)
+{
+    for (unsigned r = 0; r < row_count; r++)
+        for (unsigned side = 0; side < SIDES; side++)
+            set_calls(&rows[r], (enum side)side);
+    for (unsigned round = 0; round < ROUNDS; round++)
+        for (unsigned r = 0; r < row_count; r++)
+            measure_round(&rows[r]);
+    print_rows();
+    return sum;
 }

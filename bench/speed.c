@@ -14,7 +14,8 @@ static const struct {
     pilgodur_checked (*check)(const uint8_t *, size_t);
     pilgodur_built (*build)(const uint8_t *, size_t, uint8_t *, size_t);
     pilgodur_reading (*read_off)(const uint8_t *, size_t, uint32_t);
-    uint32_t (*run)(const uint8_t *, size_t, const uint8_t *, size_t, const uint8_t *, size_t, uint8_t *, size_t, uint8_t *, size_t);
+    uint32_t (*run)(const uint8_t *, size_t, const uint8_t *, size_t, const uint8_t *, size_t, uint8_t *, size_t, uint8_t *,
+                    size_t);
     pilgodur_probed (*probe)(const uint8_t *, size_t, const uint8_t *, size_t, uint8_t *, size_t);
 } services[SIDES] = {
     [PLAIN] = {plain_check, plain_build, plain_read_off, plain_run, plain_probe},
@@ -81,76 +82,89 @@ static const char *label(const char *format, ...)
     return text;
 }
 
-static void measure_tables(unsigned contacts)
+static void add_tables(unsigned contacts)
 {
     use_largest_board(contacts);
-    measure(label("check, %u contacts, %u gates", contacts, job.gates), do_check, 1);
-    measure(label("build, %u contacts, %u gates", contacts, job.gates), do_build, 1);
-    measure(label("read-off, %u contacts, 8 outputs", contacts), do_read_off, 1);
+    add_row(label("check, %u contacts, %u gates", contacts, job.gates), do_check, 1);
+    add_row(label("build, %u contacts, %u gates", contacts, job.gates), do_build, 1);
+    add_row(label("read-off, %u contacts, 8 outputs", contacts), do_read_off, 1);
 }
 
-static void measure_holds(const char *netlist)
+static void add_board_run(unsigned percent, const char *held)
 {
-    hold_lines(0);
-    measure(label("run, %s, no line held", netlist), do_run, 1);
-    hold_lines(50);
-    measure(label("run, %s, half of the lines held", netlist), do_run, 1);
-    hold_lines(100);
-    measure(label("run, %s, all lines held", netlist), do_run, 1);
+    hold_lines(percent);
+    add_row(label("run, board of %u gates, %s held", job.gates, held), do_run, 1);
 }
 
-static void measure_runs(void)
+/* Four netlists in turn: the processor remembers how the branches went in the gates of one, and not of all. */
+static void add_random_runs(unsigned percent, const char *held)
+{
+    for (unsigned k = 0; k < 4; k++) {
+        use_random_netlist(MOST_GATES);
+        hold_lines(percent);
+        if (k == 0)
+            add_row(label("run, 10,560 gates, 4 netlists, %s held", held), do_run, 1);
+        else
+            add_job();
+    }
+}
+
+static void add_runs(void)
 {
     use_random_netlist(0);
-    measure("run, no gates, no line held", do_run, 1);
+    add_row("run, no gates, no line held", do_run, 1);
     use_random_netlist(660);
-    measure("run, 660 gates, no line held", do_run, 1);
+    add_row("run, 660 gates, no line held", do_run, 1);
     use_largest_board(12);
-    measure_holds("board of 12 contacts");
-    use_random_netlist(MOST_GATES);
-    measure_holds("10,560 gates");
+    add_board_run(0, "no line");
+    add_board_run(50, "half of the lines");
+    add_board_run(100, "all lines");
+    add_random_runs(0, "no line");
+    add_random_runs(50, "half of the lines");
+    add_random_runs(100, "all lines");
 }
 
-static void measure_latest(void)
+/* The line that shows latest of all. */
+static void add_latest(void)
 {
     uint32_t latest = hold_latest_line();
-    measure(label("probe, %u contacts, %u gates, seen at %" PRIu32, job.contacts, job.gates, latest), do_probe, 1);
+    add_row(label("probe, %u contacts, %u gates, seen at %" PRIu32, job.contacts, job.gates, latest), do_probe, 1);
 }
 
-static void measure_mean(void)
+static void add_mean(void)
 {
-    measure(label("probe, %u contacts, %u gates, mean", job.contacts, job.gates), do_probe_lines, 2 * SPREAD);
+    add_row(label("probe, %u contacts, %u gates, mean", job.contacts, job.gates), do_probe_lines, 2 * SPREAD);
 }
 
-static void measure_probes(void)
+static void add_probes(void)
 {
     use_largest_board(12);
-    measure_latest();
-    measure_mean();
+    add_latest();
+    add_mean();
     for (unsigned contacts = 12; contacts >= 2; contacts -= 2) {
         use_shy_board(contacts);
-        measure_latest();
+        add_latest();
     }
     use_random_board(12, 8);
-    measure_mean();
+    add_mean();
     use_random_board(8, 4);
-    measure_mean();
+    add_mean();
     use_random_board(6, 3);
-    measure_mean();
+    add_mean();
     use_random_board(4, 2);
-    measure_mean();
+    add_mean();
 }
 
 int main(void)
 {
-    printf("Processor time a call, the median of %d rounds, and the median of the rounds' ratios, library to plain C and to tuned C:\n"
-           "below 1 the library is faster. \"seen at\": the held line shows latest of all, at that input. \"mean\": over %d lines\n"
-           "spread evenly, each at both values.\n\n", ROUNDS, SPREAD);
-    print_heading();
-    measure_tables(12);
-    measure_tables(6);
-    measure_tables(2);
-    measure_runs();
-    measure_probes();
-    return sum_of_answers() == 1 ? 3 : 0;
+    printf("Processor time for one call in microseconds, in the fastest of %d rounds, and the library's time divided by\n"
+           "the others': below 1 the library is faster. \"seen at\": the held line that shows latest of all, at this input.\n"
+           "\"mean\": over %d lines spread evenly, each at both values.\n\n", ROUNDS, SPREAD);
+    fflush(stdout);
+    add_tables(12);
+    add_tables(6);
+    add_tables(2);
+    add_runs();
+    add_probes();
+    return measure_rows() == 1 ? 3 : 0;
 }

@@ -374,26 +374,24 @@ static bool holds_good(const uint8_t *holds, size_t length, unsigned lines)
     return least <= lines;
 }
 
-/* The mark of a line that is held is 2 more than its value; the others have 0. */
+/* What a line shows, by its mark plus the sum of its gate's sources and kind: free lines (mark 0) show the majority of the three. */
+enum { HELD_AT_0 = 4, HELD_AT_1 = 8 };
+static const uint8_t shown[12] = {0, 0, 1, 1, [HELD_AT_0] = 0, 0, 0, 0, [HELD_AT_1] = 1, 1, 1, 1};
+
 static void mark_holds(const uint8_t *holds, size_t length, uint8_t *mark)
 {
     for (const uint8_t *end = holds + length; holds < end; holds += 3)
-        mark[two_bytes(holds)] = (uint8_t)(2 + holds[2]);
+        mark[two_bytes(holds)] = (uint8_t)(HELD_AT_0 + holds[2] * (HELD_AT_1 - HELD_AT_0));
 }
 
-static uint8_t show(uint8_t mark, uint8_t made)
-{
-    return mark != 0 ? mark & 1 : made;
-}
-
-/* Works out the gates as long as they are good. A gate is the majority of its sources and its kind. */
+/* Works out the gates as long as they are good. */
 static bool work_out(const uint8_t *gate, unsigned first, unsigned count, const uint8_t *mark, uint8_t *value)
 {
     for (unsigned line = first; line < count; line++, gate += 5) {
         unsigned left = two_bytes(gate + 1), right = two_bytes(gate + 3);
         if (gate[0] > 1 || left >= line || right >= line)
             return false;
-        value[line] = show(mark[line], (uint8_t)((value[left] + value[right] + gate[0]) >> 1));
+        value[line] = shown[mark[line] + value[left] + value[right] + gate[0]];
     }
     return true;
 }
@@ -417,7 +415,7 @@ uint32_t tuned_run(const uint8_t *netlist, size_t netlist_len, const uint8_t *ra
     value[0] = 0;
     value[1] = 1;
     for (unsigned line = 2; line < first; line++)
-        value[line] = show(mark[line], driven ? rails[line - 2] : 0);
+        value[line] = shown[mark[line] + (driven ? 2 * rails[line - 2] : 0)];
     if (!work_out(netlist + 7, first, count, mark, value) || !outputs_good(output, outputs, count))
         return 12;
     if (!driven || !ordered)
