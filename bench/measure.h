@@ -5,7 +5,7 @@
 #include "jobs.h"
 
 enum side { PLAIN, TUNED, LIBRARY, SIDES };
-enum { ROUNDS = 100 };
+enum { ROUNDS = 80 };
 
 /* Does one unit of work on one side; leaves what it wrote in `written` and returns a number made from the answer. */
 typedef uint64_t work(enum side side, const struct job *job);
