@@ -1,4 +1,5 @@
 /* Pilgodur: permit boards, from a decision-diagram table to a two-rail netlist of AND and OR gates.
+ * docs/RULES.md has the rules in full, from the files to the numbers of the gates.
  *
  * FILES. A file is a row of fields: one tag byte, two length bytes, the value. Every two-byte number has its high byte first.
  *   Table:   tag 1, one byte n, the count of contacts (1 to 12).
@@ -15,27 +16,12 @@
  *
  * HOLDS. A hold is three bytes: a line, then the value 0 or 1 at which it is held.
  *
- * REFUSALS. Each service asks its questions in the sequence stated with it, and the first no gives the refusal.
- *    0  every question got a yes
- *    1  the bytes do not split into whole fields with nothing left over
- *    2  the first field is not tag 1, length 1, value 1 to 12
- *    3  the second field is not tag 2, length 1 to 8
- *    4  there do not follow exactly n fields of tag 3 and no others, each of even length 2 to 16
- *    5  an edge or output names a node that its level lacks
- *    6  two nodes of one level have the same edges
- *    7  nodes are not numbered by first mention, or one is not mentioned
- *    8  a level has no node whose edges differ
- *    9  a lent buffer is too short
- *   10  the input is not below 2^n
- *   11  the netlist is not fields of tags 1, 4, 5 with whole gates and outputs, as above, and no more
- *   12  a kind is above 1, a source is not below its gate's own line, or an output line is not in the netlist
- *   13  the rails are not 2n bytes, each 0 or 1
- *   14  the holds are not whole (for probe: not just one), or one names a line below 2 or not in the netlist, has a value
- *       above 1, or its line is not above the one before it
- * A refusal other than 0 leaves every lent byte as it came, and every other number returned is 0.
+ * REFUSALS. Each service asks its questions in the sequence stated with it; the first no gives its number, and 0 is an answer. The
+ * questions stand below, in PILGODUR_QUESTIONS. A refusal leaves every lent byte as it came, and every other number returned is 0.
  *
- * BUFFERS. A byte string is a pointer and a length. A pointer is never NULL, even for length 0. Byte strings of one call must
- * not overlap. Bytes of a buffer past those that are written keep their values.
+ * BUFFERS. A byte string is a pointer and a length. A pointer is never NULL, even for length 0: pass any other pointer then. A buffer
+ * that a service writes must not overlap any other byte string of the call; strings that it only reads may overlap or be the same.
+ * Bytes of a buffer past those that are written keep their values.
  *
  * MEMORY. No heap and no data of the library's own, so calls from several threads do not meet. Stack: some 80 KB for check, 60 KB
  * for build, 270 KB for probe, little for the others.
@@ -50,15 +36,48 @@
 extern "C" {
 #endif
 
+#define PILGODUR_VERSION "1.0.0"
+#define PILGODUR_VERSION_MAJOR 1
+#define PILGODUR_VERSION_MINOR 0
+#define PILGODUR_VERSION_PATCH 0
+
+/* The questions, as Q(number, name, text) for each. A no to question 6 is the refusal 6, PILGODUR_REFUSAL_TWINS. The holds of
+ * question 14 are just one for probe. */
+#define PILGODUR_QUESTIONS(Q) \
+    Q(1, PILGODUR_REFUSAL_FIELDS, "Do the bytes split into whole fields with nothing left over?") \
+    Q(2, PILGODUR_REFUSAL_CONTACTS, "Is the first field tag 1, length 1, value 1 to 12?") \
+    Q(3, PILGODUR_REFUSAL_OUTPUTS, "Is the second field tag 2, length 1 to 8?") \
+    Q(4, PILGODUR_REFUSAL_LEVELS, "Do exactly n fields of tag 3 follow and no others, each of even length 2 to 16?") \
+    Q(5, PILGODUR_REFUSAL_NODES, "Does every edge and output name a node that its level has?") \
+    Q(6, PILGODUR_REFUSAL_TWINS, "Does each pair of nodes of one level differ in an edge?") \
+    Q(7, PILGODUR_REFUSAL_NUMBERING, "Are nodes numbered by first mention, and all mentioned?") \
+    Q(8, PILGODUR_REFUSAL_IDLE_LEVEL, "Has every level a node whose edges differ?") \
+    Q(9, PILGODUR_REFUSAL_BUFFER, "Is the lent buffer long enough?") \
+    Q(10, PILGODUR_REFUSAL_INPUT, "Is the input below 2^n?") \
+    Q(11, PILGODUR_REFUSAL_NETLIST, "Does the netlist have whole fields of tags 1, 4, 5 in that order and no more, tag 1 as in " \
+      "question 2, tag 4 of 0 to 10,560 whole gates, tag 5 of 1 to 8 whole outputs?") \
+    Q(12, PILGODUR_REFUSAL_WIRING, "Is every kind 0 or 1, every source below its gate's own line, every output line in the netlist?") \
+    Q(13, PILGODUR_REFUSAL_RAILS, "Are there 2n rail bytes, in line order, each 0 or 1?") \
+    Q(14, PILGODUR_REFUSAL_HOLDS, "Are the holds whole, each naming a line from 2 up that is in the netlist, with value 0 or 1, " \
+      "lines strictly rising?")
+
+#define PILGODUR_REFUSAL_(number, name, text) name = number,
+enum pilgodur_refusal { PILGODUR_REFUSAL_NONE = 0, PILGODUR_QUESTIONS(PILGODUR_REFUSAL_) };
+#undef PILGODUR_REFUSAL_
+
+/* The way in which a pair shows a held line. */
+enum pilgodur_way { PILGODUR_WAY_BOTH_LOW = 0, PILGODUR_WAY_BOTH_HIGH = 1 };
+
 /* Buffers of these lengths are always long enough; probe's needs the first two together. */
 #define PILGODUR_FILE_MAX 52842 /* a netlist file: 4 + (3 + 5 * 10560) + (3 + 4 * 8) */
 #define PILGODUR_LINES_MAX 10586 /* the lines of a netlist: 2 + 2 * 12 + 10560 */
 #define PILGODUR_PAIRS_MAX 16 /* two bytes an output */
 
+/* A refusal is one of enum pilgodur_refusal, a way one of enum pilgodur_way. */
 typedef struct { uint32_t refusal, contacts, outputs, gates, depth; } pilgodur_checked;
 typedef struct { uint32_t refusal, length; } pilgodur_built;
 typedef struct { uint32_t refusal, word; } pilgodur_reading;
-typedef struct { uint32_t refusal, input, output, way; } pilgodur_probed; /* way: 0 both low, 1 both high */
+typedef struct { uint32_t refusal, input, output, way; } pilgodur_probed;
 
 /* Checks a table. Questions 1 to 8. Returns its contacts and outputs, and the gates and depth of its netlist. A rail or constant
  * has depth 0, a gate one more than its deeper source; the netlist's depth is its largest. */

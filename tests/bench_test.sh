@@ -1,22 +1,23 @@
 #!/bin/sh
-# Runs the bench program on files and hex strings, and the C example, and compares what they say and their exit statuses with
-# the transcripts in tests/expected/.
+# Runs the bench program on files and hex: text, and compares what it says and its exit statuses with the transcripts in
+# tests/expected/. There a line that came on standard error begins with "! ".
 #
-#     tests/bench_test.sh BENCH EXAMPLE [RESULTS]
+#     tests/bench_test.sh BENCH [RESULTS]
 #
-# RESULTS, build/bench_test if it is left out, gets the transcripts of this run; the example files are copied there.
+# RESULTS, build/bench_test if it is left out, is emptied and gets the transcripts of this run and the files that it makes. With the
+# variable STOP set the first transcript that differs ends the test.
 set -u
 LC_ALL=C
 export LC_ALL
 
-if [ $# -lt 2 ]; then
-    echo "usage: tests/bench_test.sh BENCH EXAMPLE [RESULTS]" >&2
+if [ $# -lt 1 ]; then
+    echo "usage: tests/bench_test.sh BENCH [RESULTS]" >&2
     exit 2
 fi
 root=$(cd "$(dirname "$0")/.." && pwd) || exit 2
-bench=$(realpath "$1") && example=$(realpath "$2") || exit 2
-results=${3:-$root/build/bench_test}
-mkdir -p "$results" && cp "$root"/examples/* "$results" && cd "$results" || exit 2
+bench=$(realpath "$1") || exit 2
+results=${2:-$root/build/bench_test}
+rm -rf "$results" && mkdir -p "$results" && cp "$root"/examples/* "$results" && cd "$results" || exit 2
 
 commands=0
 failures=0
@@ -33,11 +34,28 @@ say() {
     printf '$ %s\n' "$*" >>"$name.txt"
 }
 
+# heard STATUS: writes what came on either stream, in the files out and err, and the exit status.
+heard() {
+    cat out >>"$name.txt"
+    sed 's/^/! /' err >>"$name.txt"
+    echo "[$1]" >>"$name.txt"
+}
+
 # try ARGUMENT...: runs the bench with these arguments.
 try() {
     say pilgodur "$@"
-    "$bench" "$@" >>"$name.txt" 2>&1 </dev/null
-    echo "[$?]" >>"$name.txt"
+    "$bench" "$@" >out 2>err </dev/null
+    heard $?
+}
+
+# pipe COMMAND LINE: runs a line of the shell in which pilgodur is the bench.
+pilgodur() {
+    "$bench" "$@"
+}
+pipe() {
+    say "$@"
+    eval "$*" >out 2>err
+    heard $?
 }
 
 # judge: compares the transcript with the expected one.
@@ -45,7 +63,38 @@ judge() {
     if ! diff -u "$root/tests/expected/$name.txt" "$name.txt"; then
         echo "FAILED: $name"
         failures=$((failures + 1))
+        [ -z "${STOP-}" ] || exit 1
     fi
+}
+
+# Tables that each of the questions 1 to 8 refuses.
+q1=hex:0100010102000100030003
+q2=hex:0100010d
+q3=hex:01000101020000
+q4=hex:0100010102000100
+q5=hex:01000101020001000300020002
+q6=hex:0100010202000100030002000103000400010001
+q7=hex:0100010202000100030002010003000400010100
+q8=hex:010001020200010003000200000300020001
+# Netlists that questions 11 and 12 refuse.
+q11=hex:010001010400010005000400020003
+q12=hex:01000101040005020002000305000400040003
+
+# netlist CONTACTS "KIND SOURCE SOURCE ..." "TRUE FALSE ...": the hex: text of a netlist.
+netlist() {
+    n=$1 outputs=$3 gates='' length=0
+    # shellcheck disable=SC2086
+    set -- $2
+    while [ $# -gt 0 ]; do
+        kind=0
+        [ "$1" = OR ] && kind=1
+        gates=$gates$(printf '%02x%04x%04x' "$kind" "$2" "$3")
+        length=$((length + 5))
+        shift 3
+    done
+    # shellcheck disable=SC2086
+    set -- $outputs
+    printf 'hex:010001%02x04%04x%s05%04x%s' "$n" "$length" "$gates" $((2 * $#)) "$(printf '%04x' "$@")"
 }
 
 transcript check
@@ -55,33 +104,28 @@ try check lift.table
 try check widest.table
 try check @selector.table
 try check 'hex:01 00 01 01 02 00 01 00 03 00 02 00 01'
-say 'pilgodur check - <selector.table'
-"$bench" check - <selector.table >>check.txt 2>&1
-echo "[$?]" >>check.txt
-try check hex:0100010102000100030003
-try check hex:
-try check hex:0100010d
-try check hex:01000101020000
-try check hex:0100010102000100
-try check hex:010001010200010003000100
-try check hex:0100010102000100030012000000000000000000000000000000000000
-try check hex:01000101020001000300020002
-try check hex:0100010202000100030002000103000400010001
-try check hex:0100010202000100030002010003000400010100
-try check hex:010001020200010003000200000300020001
+pipe 'pilgodur check - <selector.table'
+for table in $q1 hex: $q2 $q3 $q4 hex:010001010200010003000100 hex:0100010102000100030012000000000000000000000000000000000000 \
+    $q5 $q6 $q7 $q8; do
+    try check "$table"
+done
+try check selector.netlist
 judge
 
 transcript build
 try build selector.table
 try build single.table
 try build selector.table -o built.netlist
-say 'cmp built.netlist selector.netlist'
-cmp built.netlist selector.netlist >>build.txt 2>&1
-echo "[$?]" >>build.txt
-say 'pilgodur build widest.table -o - | cksum'
-"$bench" build widest.table -o - 2>&1 | cksum >>build.txt
+pipe 'cmp built.netlist selector.netlist'
+try build widest.table -o widest.netlist
+pipe 'cksum <widest.netlist'
+pipe 'pilgodur build widest.table -o - | cksum'
+pipe 'pilgodur build widest.table | cksum'
 try build hex:
+try build $q6 -o built.netlist
+pipe 'cmp built.netlist selector.netlist'
 try build selector.table -o no/such/folder
+try build selector.table -o .
 judge
 
 transcript list
@@ -89,44 +133,100 @@ try list selector.table
 try list selector.netlist
 try list single.table
 try list lift.table
-say 'pilgodur build selector.table -o - | pilgodur list -'
-"$bench" build selector.table -o - | "$bench" list - >>list.txt 2>&1
-echo "[$?]" >>list.txt
-try list hex:0100010202000100030002000103000400010001
-try list hex:010001010400010005000400020003
+pipe 'pilgodur build selector.table -o - | pilgodur list -'
+pipe 'pilgodur list widest.table | cksum'
+pipe 'pilgodur list widest.netlist | cksum'
+pipe 'pilgodur list - <widest.netlist | cksum'
+pipe 'pilgodur build widest.table | pilgodur list - | cksum'
+try list $q6
+try list $q11
+try list $q12
 try list hex:01000101040000
 try list hex:0100010104000005000400020004
+try list hex:0100010d0400000500040002001b
+judge
+
+transcript hex
+pipe 'pilgodur build selector.table | pilgodur list -'
+pipe 'pilgodur build selector.table >selector.hex; pilgodur compare selector.hex selector.table'
+pipe 'pilgodur build widest.table | fold -w 79 >widest.hex; pilgodur compare widest.hex widest.table'
+pipe 'printf "hex:01 00 01 01\r\n\t02 00 01 00\r\n03 00 02 00 01\r\n" | pilgodur check -'
+pipe 'printf "HEX:" | pilgodur check -'
+pipe 'printf "hex:0100:" >bad.hex; pilgodur check bad.hex'
+pipe 'printf "hex:01000" | pilgodur check -'
+pipe 'printf "hex:0100\0" | pilgodur check -'
+pipe 'printf "hex:" | pilgodur check -'
+pipe 'printf "hex:000100010001" >rails.hex; pilgodur run selector.netlist rails.hex'
+try check hex:010
+try check hex:0g
+try check hex:010001010200010003000200010203040506
 judge
 
 transcript read-off
 for input in 0 1 2 3 4 5 6 7 8; do
     try read-off selector.table "$input"
 done
+try read-off selector.table contacts:110
+try read-off selector.table contacts:001
 try read-off lift.table 15
-try read-off lift.table 4
+try read-off lift.table contacts:0010
 try read-off hex: 0
-try read-off selector.table 3x
+try read-off hex: contacts:000
+try read-off $q6 8
+try read-off selector.table 4294967295
 try read-off selector.table 4294967296
+try read-off selector.table 18446744073709551616
+try read-off selector.table 3x
+try read-off selector.table 0x3
+try read-off selector.table ''
+try read-off selector.table contacts:
+try read-off selector.table contacts:11
+try read-off selector.table contacts:1100
+try read-off selector.table contacts:112
+try read-off selector.table contacts:1111111111111111111111111111111111111111
 judge
 
 transcript run
 try run selector.netlist 3
+try run selector.netlist contacts:110
 try run selector.netlist 6 10=0
 try run selector.netlist 6 10=0 --lines
-try run selector.netlist 0 14=0 16=1
+try run selector.netlist contacts:000 14=0 16=1
+try run selector.netlist 0 8=1 9=1 16=1 --lines
 try run selector.netlist 0 10=0
 try run selector.netlist 3 10=1
 try run selector.netlist hex:000000000000
+pipe 'printf "\0\001\0\001\0\001" >3; pilgodur run selector.netlist @3'
+pipe 'printf "\0\001\0\001\0\001" | pilgodur run selector.netlist -'
+pipe 'pilgodur build selector.table | pilgodur run - 3'
+pipe 'pilgodur run widest.netlist 4095 | cksum'
+pipe 'pilgodur run widest.netlist 4095 1383=0 1384=1 --lines | cksum'
 try run selector.table 0
-try run hex:01000101040005020002000305000400040003 0
+try run $q12 0
 try run selector.netlist hex:0001000100
 try run selector.netlist hex:000100010002
 try run selector.netlist 0 16=1 14=0
+try run selector.netlist 0 10=0 10=0
 try run selector.netlist 0 1=0
 try run selector.netlist 0 17=0
 try run selector.netlist 0 16=2
+try run selector.netlist 0 65536=0
+try run selector.netlist 0 65546=0
+try run selector.netlist 0 10=256
+try run selector.netlist 0 10=257
+try run selector.netlist 0 4294967306=0
 try run selector.netlist 8
-try run selector.netlist 0 16
+try run selector.netlist 4294967299
+try run selector.netlist contacts:11
+try run $q11 8
+try run $q12 contacts:11
+try run selector.table 8
+try run selector.netlist 0x3
+try run selector.netlist no-such.rails
+try run selector.netlist @no-such.rails
+for hold in 16 16= =0 16=0x 16=0=0 16=-1 x=0; do
+    try run selector.netlist 0 "$hold"
+done
 judge
 
 transcript probe
@@ -136,33 +236,115 @@ try probe selector.table 10=1 --lines
 try probe single.table 2=1
 try probe lift.table 21=0
 try probe widest.table 1383=0
+pipe 'pilgodur probe widest.table 1383=0 --lines | cksum'
 try probe selector.table 17=0
-try probe hex:0100010202000100030002000103000400010001 2=0
+try probe selector.table 65546=0
+try probe selector.table 10=256
+try probe $q6 2=0
+try probe selector.table 10
+judge
+
+transcript compare
+gates='AND 3 5 AND 2 5 OR 8 9 AND 3 4 AND 2 4 AND 10 7 OR 13 11 AND 10 6'
+try compare selector.table selector.netlist
+try compare selector.netlist "$(netlist 3 "$gates OR 15 12" '16 14')"
+try compare widest.table widest.netlist
+pipe 'pilgodur build lift.table | pilgodur compare - lift.table'
+# An OR with its sources exchanged; an AND in its place; the ANDs of each product numbered before its ORs.
+try compare selector.table "$(netlist 3 "$gates OR 12 15" '16 14')"
+try compare selector.table "$(netlist 3 "$gates AND 15 12" '16 14')"
+ands_first=$(netlist 3 'AND 3 5 AND 2 5 AND 3 4 AND 2 4 OR 8 9 AND 12 7 AND 12 6 OR 13 10 OR 14 11' '16 15')
+try compare selector.table "$ands_first"
+try compare selector.table "$ands_first" --all
+# A gate is missing; there is one more; the output's lines are exchanged; there is one more output; other contacts.
+try compare selector.netlist "$(netlist 3 "$gates" '15 14')"
+try compare "$(netlist 3 "$gates" '15 14')" selector.table
+try compare selector.table "$(netlist 3 "$gates OR 15 12 AND 2 3" '16 14')"
+try compare selector.table "$(netlist 3 "$gates OR 15 12" '14 16')"
+try compare selector.table "$(netlist 3 "$gates OR 15 12" '16 14 2 3')"
+try compare selector.table lift.table
+try compare single.table "$(netlist 2 '' '2 3')"
+# The permits of the second output alone, and the false rail alone.
+try compare "$(netlist 2 '' '2 3 4 5')" "$(netlist 2 '' '2 3 5 4')"
+try compare "$(netlist 2 '' '2 3')" "$(netlist 2 '' '2 5')"
+try compare selector.table $q6
+try compare $q12 selector.table
+try compare selector.table no-such.table
+try compare selector.table
+judge
+
+transcript dictionary
+try dictionary selector.table
+try dictionary single.table
+pipe 'pilgodur dictionary widest.table | cksum'
+try dictionary lift.table -o lift.csv
+pipe 'head -n 3 lift.csv; wc -l <lift.csv'
+try dictionary $q6
+try dictionary selector.netlist
+judge
+
+transcript export
+# Constants as sources and outputs, a rail as an output, and a gate that has one source twice.
+constants=$(netlist 2 'AND 1 2 OR 0 4 AND 5 5 OR 6 6' '0 1 8 3')
+for format in --blif --verilog --dot; do
+    try export selector.table $format
+    try export single.table $format
+    try export "$constants" $format
+done
+try export selector.netlist --blif -o selector.blif
+pipe 'pilgodur export selector.table --blif | cmp - selector.blif'
+try export selector.table
+try export selector.table --blif --dot
+try export $q6 --blif
+try export $q11 --blif
 judge
 
 transcript usage
 try --help
+pipe 'pilgodur --help >help; pilgodur -h | cmp - help'
+try --version
+try check -V
 try
 try mend selector.table
 try read-off selector.table
+try check selector.table lift.table
 try check selector.table --lines
+try check selector.table -o out
+try list selector.table --all
+try list selector.table --blif
+try list selector.table --mend
+try list selector.table -x
+try list -xV selector.table
+try list selector.table --lines=3
+try list selector.table --ver
+try build selector.table -o
+try build selector.table --output
+try build selector.table -o one -o two
+pipe 'pilgodur -o - build single.table | cksum'
+pipe 'pilgodur build -o- single.table | cksum'
+pipe 'pilgodur build --output=- single.table | cksum'
+try --lines run selector.netlist 3
+cp selector.table ./-x
+try check -x
+try check -- -x
+try -- check -x
+try check ./-x
+try run selector.netlist -1
+try compare - -
+try run - -
+pipe 'POSIXLY_CORRECT=1 "$bench" build single.table -o - | cksum'
 try check no-such.table
-try check hex:010
 try check .
+try check ''
+pipe 'pilgodur check - <&-'
 judge
 
-if [ -w /dev/full ]; then
-    transcript full
-    say 'pilgodur check selector.table >/dev/full'
-    "$bench" check selector.table 2>>full.txt >/dev/full
-    echo "[$?]" >>full.txt
-    judge
-fi
-
-transcript example
-say example
-"$example" >>example.txt 2>&1
-echo "[$?]" >>example.txt
+transcript full
+[ -w /dev/full ] || echo "there is no /dev/full; the next transcript cannot be as expected"
+pipe 'pilgodur check selector.table >/dev/full'
+pipe 'pilgodur --help >/dev/full'
+pipe 'pilgodur list widest.table >/dev/full'
+pipe 'pilgodur check selector.table >&-'
 judge
 
 echo "bench: $commands commands, $failures transcripts differ"

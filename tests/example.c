@@ -1,7 +1,7 @@
 /* Builds the selector's netlist and probes one of its lines. */
 #include <stdio.h>
 
-#include "../include/pilgodur.h"
+#include <pilgodur.h>
 
 int main(void)
 {
@@ -12,19 +12,19 @@ int main(void)
     static uint8_t buffer[PILGODUR_FILE_MAX + PILGODUR_LINES_MAX];
 
     pilgodur_built built = pilgodur_build(table, sizeof table, netlist, sizeof netlist);
-    if (built.refusal != 0) {
+    if (built.refusal != PILGODUR_REFUSAL_NONE) {
         printf("refused: %u\n", (unsigned)built.refusal);
         return 1;
     }
     printf("the netlist file has %u bytes\n", (unsigned)built.length);
 
     pilgodur_probed probed = pilgodur_probe(table, sizeof table, hold, sizeof hold, buffer, sizeof buffer);
-    if (probed.refusal != 0) {
+    if (probed.refusal != PILGODUR_REFUSAL_NONE) {
         printf("refused: %u\n", (unsigned)probed.refusal);
         return 1;
     }
     printf("line 10 held at 0 shows at input %u: output %u is %s\n", (unsigned)probed.input, (unsigned)probed.output,
-           probed.way == 0 ? "00, both low" : "11, both high");
+           probed.way == PILGODUR_WAY_BOTH_LOW ? "00, both low" : "11, both high");
     printf("line 16 is then %u\n", buffer[built.length + 16]);
     return 0;
 }

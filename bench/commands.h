@@ -1,0 +1,33 @@
+/* The commands. Each loads the files that it is asked about and writes its answer to a stream. */
+#ifndef COMMANDS_H
+#define COMMANDS_H
+
+#include <stdio.h>
+
+#include "load.h"
+#include "report.h"
+
+enum format { NO_FORMAT, BLIF, VERILOG, DOT };
+
+/* What the command line asks for, but for the command itself. */
+struct request {
+    char **operand;
+    int operands;
+    const char *output; /* -o */
+    bool lines;         /* --lines */
+    bool all;           /* --all */
+    enum format format;
+    struct file file[2]; /* those loaded so far */
+    int files;
+};
+
+/* Loads an operand as the request's next file. */
+const struct file *load_operand(struct request *request, int operand);
+
+typedef enum status command(struct request *request, FILE *out);
+
+command check, build, read_off, probe;      /* on_table.c */
+command list, run;                          /* on_netlist.c */
+command compare, dictionary, export_netlist; /* compare.c, dictionary.c, export.c */
+
+#endif

@@ -1,0 +1,153 @@
+/* A netlist for the tools of the field. Every line keeps its number: line 8 is the net l8. */
+#include "commands.h"
+#include "netlist.h"
+
+static const char *const rail_names[] = {"true", "false"};
+
+static bool is_read(const struct netlist *netlist, unsigned line)
+{
+    for (unsigned g = 0; g < netlist->gates; g++) {
+        struct gate gate = gate_at(netlist, g);
+        if (gate.first == line || gate.second == line)
+            return true;
+    }
+    for (unsigned j = 0; j < netlist->outputs; j++) {
+        struct pair pair = pair_at(netlist, j);
+        if (pair.yes == line || pair.no == line)
+            return true;
+    }
+    return false;
+}
+
+/* The line of an output's rail. */
+static unsigned output_line(const struct netlist *netlist, unsigned output, unsigned rail)
+{
+    struct pair pair = pair_at(netlist, output);
+    return rail == 0 ? pair.yes : pair.no;
+}
+
+static void write_title(FILE *out, const char *mark, const struct netlist *netlist)
+{
+    fprintf(out, "%s Pilgodur " PILGODUR_VERSION ": a permit board, contacts %u, gates %u, outputs %u.\n", mark,
+            netlist->contacts, netlist->gates, netlist->outputs);
+    fprintf(out, "%s Line 8 is the net l8. Lines 0 and 1 are the constants.\n", mark);
+}
+
+/* ---- BLIF. ---- */
+
+static void blif_ports(FILE *out, const struct netlist *netlist)
+{
+    for (unsigned line = 2; line < first_gate(netlist); line++)
+        fprintf(out, "# l%u: contact %u, %s rail\n", line, line / 2 - 1, rail_names[line % 2]);
+    fprintf(out, ".model permit_board\n.inputs");
+    for (unsigned line = 2; line < first_gate(netlist); line++)
+        fprintf(out, " l%u", line);
+    fprintf(out, "\n.outputs");
+    for (unsigned j = 0; j < netlist->outputs; j++)
+        fprintf(out, " output%u_true output%u_false", j, j);
+    fprintf(out, "\n");
+}
+
+/* A gate that has one source twice is its source: a cover may not name an input twice. */
+static void blif_gate(FILE *out, const struct gate *gate, unsigned line)
+{
+    if (gate->first == gate->second)
+        fprintf(out, ".names l%u l%u\n1 1\n", gate->first, line);
+    else
+        fprintf(out, ".names l%u l%u l%u\n%s\n", gate->first, gate->second, line, is_or(gate) ? "1- 1\n-1 1" : "11 1");
+}
+
+static void write_blif(FILE *out, const struct netlist *netlist)
+{
+    write_title(out, "#", netlist);
+    blif_ports(out, netlist);
+    if (is_read(netlist, 0))
+        fprintf(out, ".names l0\n");
+    if (is_read(netlist, 1))
+        fprintf(out, ".names l1\n1\n");
+    for (unsigned g = 0; g < netlist->gates; g++) {
+        struct gate gate = gate_at(netlist, g);
+        blif_gate(out, &gate, first_gate(netlist) + g);
+    }
+    for (unsigned j = 0; j < netlist->outputs; j++)
+        for (unsigned rail = 0; rail < 2; rail++)
+            fprintf(out, ".names l%u output%u_%s\n1 1\n", output_line(netlist, j, rail), j, rail_names[rail]);
+    fprintf(out, ".end\n");
+}
+
+/* ---- Verilog. ---- */
+
+static void verilog_ports(FILE *out, const struct netlist *netlist)
+{
+    fprintf(out, "module permit_board (\n");
+    for (unsigned line = 2; line < first_gate(netlist); line++)
+        fprintf(out, "  input wire l%u, // contact %u, %s rail\n", line, line / 2 - 1, rail_names[line % 2]);
+    for (unsigned j = 0; j < netlist->outputs; j++)
+        fprintf(out, "  output wire output%u_true,\n  output wire output%u_false%s\n", j, j, j + 1 < netlist->outputs ? "," : "");
+    fprintf(out, ");\n");
+}
+
+static void write_verilog(FILE *out, const struct netlist *netlist)
+{
+    write_title(out, "//", netlist);
+    verilog_ports(out, netlist);
+    for (unsigned line = 0; line < 2; line++)
+        if (is_read(netlist, line))
+            fprintf(out, "  wire l%u;\n  assign l%u = 1'b%u;\n", line, line, line);
+    for (unsigned g = 0; g < netlist->gates; g++)
+        fprintf(out, "  wire l%u;\n", first_gate(netlist) + g);
+    for (unsigned g = 0; g < netlist->gates; g++) {
+        struct gate gate = gate_at(netlist, g);
+        unsigned line = first_gate(netlist) + g;
+        fprintf(out, "  %s g%u (l%u, l%u, l%u);\n", is_or(&gate) ? "or" : "and", line, line, gate.first, gate.second);
+    }
+    for (unsigned j = 0; j < netlist->outputs; j++)
+        for (unsigned rail = 0; rail < 2; rail++)
+            fprintf(out, "  assign output%u_%s = l%u;\n", j, rail_names[rail], output_line(netlist, j, rail));
+    fprintf(out, "endmodule\n");
+}
+
+/* ---- DOT. ---- */
+
+static void dot_gates(FILE *out, const struct netlist *netlist)
+{
+    for (unsigned g = 0; g < netlist->gates; g++) {
+        struct gate gate = gate_at(netlist, g);
+        unsigned line = first_gate(netlist) + g;
+        fprintf(out, "  l%u [shape=%s, label=\"%u %s\"];\n", line, is_or(&gate) ? "ellipse" : "box", line, gate.kind);
+        fprintf(out, "  l%u -> l%u;\n  l%u -> l%u;\n", gate.first, line, gate.second, line);
+    }
+}
+
+static void write_dot(FILE *out, const struct netlist *netlist)
+{
+    write_title(out, "//", netlist);
+    fprintf(out, "digraph permit_board {\n  rankdir=LR;\n");
+    for (unsigned line = 0; line < 2; line++)
+        if (is_read(netlist, line))
+            fprintf(out, "  l%u [shape=plaintext, label=\"%u constant\"];\n", line, line);
+    for (unsigned line = 2; line < first_gate(netlist); line++)
+        fprintf(out, "  l%u [shape=plaintext, label=\"%u contact %u %s\"];\n", line, line, line / 2 - 1, rail_names[line % 2]);
+    dot_gates(out, netlist);
+    for (unsigned j = 0; j < netlist->outputs; j++)
+        for (unsigned rail = 0; rail < 2; rail++) {
+            fprintf(out, "  output%u_%s [shape=plaintext, label=\"output %u %s\"];\n", j, rail_names[rail], j, rail_names[rail]);
+            fprintf(out, "  l%u -> output%u_%s;\n", output_line(netlist, j, rail), j, rail_names[rail]);
+        }
+    fprintf(out, "}\n");
+}
+
+enum status export_netlist(struct request *request, FILE *out)
+{
+    static uint8_t room[PILGODUR_FILE_MAX];
+    if (request->format == NO_FORMAT)
+        fail(MISUSED, "export: choose --blif, --verilog or --dot; see pilgodur --help");
+    struct netlist netlist = netlist_in_or_of(load_operand(request, 0), room);
+    if (request->format == BLIF)
+        write_blif(out, &netlist);
+    else if (request->format == VERILOG)
+        write_verilog(out, &netlist);
+    else
+        write_dot(out, &netlist);
+    return ANSWERED;
+}

@@ -1,0 +1,46 @@
+/* Netlist files, seen as gates and outputs. */
+#ifndef NETLIST_H
+#define NETLIST_H
+
+#include "../include/pilgodur.h"
+#include "load.h"
+
+struct netlist {
+    const char *name; /* of the file that it comes from */
+    const uint8_t *bytes;
+    size_t length;
+    unsigned contacts, gates, outputs;
+    const uint8_t *gate;   /* five bytes each */
+    const uint8_t *output; /* four bytes each */
+};
+
+struct gate {
+    const char *kind; /* AND or OR */
+    unsigned first, second;
+};
+
+/* The lines of an output. */
+struct pair {
+    unsigned yes, no;
+};
+
+unsigned two_bytes(const uint8_t *at);
+
+/* The line of gate 0, and the count of lines. */
+unsigned first_gate(const struct netlist *netlist);
+unsigned lines_of(const struct netlist *netlist);
+
+struct gate gate_at(const struct netlist *netlist, unsigned gate);
+struct pair pair_at(const struct netlist *netlist, unsigned output);
+bool is_or(const struct gate *gate);
+
+/* The netlist in a file that gets a yes to questions 11 and 12. A file that does not ends the program. */
+struct netlist netlist_in(const struct file *file);
+
+/* The netlist of a table, built into `room`. A table that is refused ends the program. */
+struct netlist netlist_of(const struct file *table, uint8_t room[PILGODUR_FILE_MAX]);
+
+/* One or the other: a file whose second field has tag 4 is taken for a netlist, any other for a table. */
+struct netlist netlist_in_or_of(const struct file *file, uint8_t room[PILGODUR_FILE_MAX]);
+
+#endif

@@ -1,0 +1,77 @@
+/* The commands on a table alone. */
+#include <inttypes.h>
+
+#include "commands.h"
+#include "netlist.h"
+#include "operands.h"
+#include "show.h"
+
+static uint8_t room[PILGODUR_FILE_MAX + PILGODUR_LINES_MAX];
+
+static pilgodur_checked checked_table(const struct file *table)
+{
+    pilgodur_checked checked = pilgodur_check(table->at, table->length);
+    if (checked.refusal != 0)
+        refuse(checked.refusal, "%s", table->name);
+    return checked;
+}
+
+enum status check(struct request *request, FILE *out)
+{
+    pilgodur_checked checked = checked_table(load_operand(request, 0));
+    fprintf(out, "contacts %" PRIu32 "\noutputs %" PRIu32 "\ngates %" PRIu32 "\ndepth %" PRIu32 "\n", checked.contacts,
+            checked.outputs, checked.gates, checked.depth);
+    return ANSWERED;
+}
+
+/* With -o the netlist's bytes, else the hex: text of them. */
+enum status build(struct request *request, FILE *out)
+{
+    struct netlist netlist = netlist_of(load_operand(request, 0), room);
+    if (request->output != NULL) {
+        fwrite(netlist.bytes, 1, netlist.length, out);
+        return ANSWERED;
+    }
+    fputs("hex:", out);
+    for (size_t i = 0; i < netlist.length; i++)
+        fprintf(out, "%02x", netlist.bytes[i]);
+    fputc('\n', out);
+    return ANSWERED;
+}
+
+enum status read_off(struct request *request, FILE *out)
+{
+    struct input input = read_input(request->operand[1]);
+    const struct file *table = load_operand(request, 0);
+    pilgodur_checked checked = checked_table(table);
+    uint32_t number = input_number(&input, checked.contacts, table->name);
+    pilgodur_reading reading = pilgodur_read_off(table->at, table->length, number);
+    if (reading.refusal != 0)
+        refuse(reading.refusal, "%s at input %s", table->name, input.text);
+    show_input(out, number, checked.contacts);
+    fprintf(out, "word %" PRIu32 "\n", reading.word);
+    for (uint32_t j = 0; j < checked.outputs; j++)
+        fprintf(out, "output %" PRIu32 ": %s\n", j, reading.word >> j & 1 ? "yes" : "no");
+    return ANSWERED;
+}
+
+enum status probe(struct request *request, FILE *out)
+{
+    uint8_t hold[3];
+    read_hold(request->operand[1], hold);
+    const struct file *table = load_operand(request, 0);
+    pilgodur_probed probed = pilgodur_probe(table->at, table->length, hold, sizeof hold, room, sizeof room);
+    if (probed.refusal == PILGODUR_REFUSAL_HOLDS)
+        refuse(probed.refusal, "%s with hold %s", table->name, request->operand[1]);
+    if (probed.refusal != 0)
+        refuse(probed.refusal, "%s", table->name);
+    pilgodur_checked checked = checked_table(table);
+    fprintf(out, "line %u held at %u shows at ", two_bytes(hold), hold[2]);
+    show_input(out, probed.input, checked.contacts);
+    show_pair(out, probed.output, probed.way, probed.way);
+    if (request->lines) {
+        uint32_t netlist = 10 + 5 * checked.gates + 4 * checked.outputs;
+        show_lines(out, room + netlist, 2 + 2 * checked.contacts + checked.gates, hold, sizeof hold);
+    }
+    return ANSWERED;
+}

@@ -1,0 +1,188 @@
+#include "options.h"
+
+#include <getopt.h>
+#include <limits.h>
+#include <stdlib.h>
+#include <string.h>
+
+#include "../include/pilgodur.h"
+#include "save.h"
+
+/* What stands for each option: its letter, or a number above all letters. */
+enum option_name { OUTPUT = 'o', HELP = 'h', VERSION = 'V', OPERAND = 1, LINES = 256, ALL, AS_BLIF, AS_VERILOG, AS_DOT };
+
+/* The options of one command. */
+enum { TAKES_OUTPUT = 1, TAKES_LINES = 2, TAKES_ALL = 4, TAKES_FORMAT = 8 };
+
+static const struct {
+    const char *name;
+    command *perform;
+    int least, most; /* operands */
+    unsigned takes;
+} commands[] = {
+    {"check", check, 1, 1, 0},
+    {"build", build, 1, 1, TAKES_OUTPUT},
+    {"list", list, 1, 1, 0},
+    {"compare", compare, 2, 2, TAKES_ALL},
+    {"read-off", read_off, 2, 2, 0},
+    {"run", run, 2, INT_MAX, TAKES_LINES},
+    {"probe", probe, 2, 2, TAKES_LINES},
+    {"dictionary", dictionary, 1, 1, TAKES_OUTPUT},
+    {"export", export_netlist, 1, 1, TAKES_OUTPUT | TAKES_FORMAT},
+};
+
+static const struct option options[] = {
+    {"output", required_argument, NULL, OUTPUT}, {"lines", no_argument, NULL, LINES},
+    {"all", no_argument, NULL, ALL},             {"blif", no_argument, NULL, AS_BLIF},
+    {"verilog", no_argument, NULL, AS_VERILOG},  {"dot", no_argument, NULL, AS_DOT},
+    {"help", no_argument, NULL, HELP},           {"version", no_argument, NULL, VERSION},
+    {NULL, 0, NULL, 0},
+};
+
+static const char help[] =
+    "usage: pilgodur COMMAND OPERAND... [OPTION...]\n"
+    "\n"
+    "  check TABLE                     ask the table's questions; show contacts, outputs, gates and depth\n"
+    "  build TABLE [-o FILE]           build the netlist; without -o show it as hex: text\n"
+    "  list TABLE|NETLIST              show the gate list\n"
+    "  compare A B [--all]             lay the gate lists of two tables or netlists side by side: show how many gates differ, the\n"
+    "                                  first of them (all of them with --all) and every output that differs\n"
+    "  read-off TABLE INPUT            show every permit that the table gives at an input\n"
+    "  run NETLIST INPUT|RAILS [HOLD...] [--lines]\n"
+    "                                  run a netlist with lines held; show the output pairs\n"
+    "  probe TABLE HOLD [--lines]      find the smallest input at which a held line shows\n"
+    "  dictionary TABLE [-o FILE]      probe every line at both values; write the answers as CSV\n"
+    "  export TABLE|NETLIST --blif|--verilog|--dot [-o FILE]\n"
+    "                                  write the netlist for other tools, line 8 as the net l8\n"
+    "\n"
+    "TABLE, NETLIST and RAILS are files: a path, @PATH, - for standard input, or hex: and digits for the bytes themselves. What\n"
+    "build shows is read back: a file or standard input may hold such hex: text, too.\n"
+    "INPUT is a decimal number in which contact i has the weight 2^i, or contacts: and a sign for each contact, contact 0 first,\n"
+    "1 closed and 0 open: contacts:110 is 3. RAILS has a byte 0 or 1 for each rail in line order; a path that reads like an input\n"
+    "is written @PATH there. HOLD is LINE=VALUE, as in 10=0; several stand in rising order of lines.\n"
+    "\n"
+    "  -o, --output FILE   write the answer to FILE, whole or not at all; build then writes the netlist's bytes. - is standard\n"
+    "                      output. FILE must not be one of the files read.\n"
+    "      --lines         also show the value of every line\n"
+    "      --all           show every gate that differs\n"
+    "      --blif, --verilog, --dot   the form of an export\n"
+    "  -h, --help          show this text\n"
+    "  -V, --version       show the version\n"
+    "\n"
+    "Options may stand anywhere; after -- every word is an operand.\n"
+    "\n"
+    "Exit status: 0 an answer; 1 a no: a refusal by a numbered question, or lists that differ; 2 a wrong command line; 3 a file\n"
+    "that cannot be read or written.\n";
+
+static _Noreturn void answer(const char *text)
+{
+    save(NULL, text, strlen(text), NULL, 0);
+    exit(ANSWERED);
+}
+
+static void set_output(struct request *request)
+{
+    if (request->output != NULL)
+        fail(MISUSED, "-o is given twice");
+    request->output = optarg;
+}
+
+static void set_format(struct request *request, enum format format)
+{
+    if (request->format != NO_FORMAT)
+        fail(MISUSED, "choose one of --blif, --verilog and --dot");
+    request->format = format;
+}
+
+static _Noreturn void refuse_option(int found, const char *word)
+{
+    bool is_long = strncmp(word, "--", 2) == 0;
+    if (found == ':')
+        fail(MISUSED, "%s: a file must follow", word);
+    if (is_long && optopt != 0)
+        fail(MISUSED, "%s: this option takes no value", word);
+    if (is_long)
+        fail(MISUSED, "%s: no such option; see pilgodur --help", word);
+    fail(MISUSED, "-%c: no such option; see pilgodur --help", optopt);
+}
+
+/* Takes one option; returns what a command must allow for it. */
+static unsigned take_option(int found, const char *word, struct request *request)
+{
+    switch (found) {
+    case OPERAND:
+        request->operand[request->operands++] = optarg;
+        return 0;
+    case OUTPUT:
+        set_output(request);
+        return TAKES_OUTPUT;
+    case LINES:
+        request->lines = true;
+        return TAKES_LINES;
+    case ALL:
+        request->all = true;
+        return TAKES_ALL;
+    case AS_BLIF:
+    case AS_VERILOG:
+    case AS_DOT:
+        set_format(request, found == AS_BLIF ? BLIF : found == AS_VERILOG ? VERILOG : DOT);
+        return TAKES_FORMAT;
+    case HELP:
+        answer(help);
+    case VERSION:
+        answer("pilgodur " PILGODUR_VERSION "\n");
+    default:
+        refuse_option(found, word);
+    }
+}
+
+/* Takes every option in turn, wherever it stands. The operands gather at the start of argv, in places that are read already. */
+static unsigned take_options(int argc, char **argv, struct request *request)
+{
+    unsigned taken = 0;
+    int found;
+    opterr = 0;
+    while ((found = getopt_long(argc, argv, "-:o:hV", options, NULL)) != -1)
+        taken |= take_option(found, argv[optind - 1], request);
+    while (optind < argc)
+        request->operand[request->operands++] = argv[optind++];
+    return taken;
+}
+
+static void count_operands(const char *name, const struct request *request, int least, int most)
+{
+    int standard_inputs = 0;
+    for (int i = 0; i < request->operands; i++)
+        standard_inputs += strcmp(request->operand[i], "-") == 0;
+    if (standard_inputs > 1)
+        fail(MISUSED, "%s: - is given twice, but standard input can be read only once", name);
+    if (request->operands < least)
+        fail(MISUSED, "%s: an operand is missing; see pilgodur --help", name);
+    if (request->operands > most)
+        fail(MISUSED, "%s: %s is one operand too many; see pilgodur --help", name, request->operand[most]);
+}
+
+static const char *option_text(unsigned taken)
+{
+    return taken & TAKES_OUTPUT ? "-o" : taken & TAKES_LINES ? "--lines" : taken & TAKES_ALL ? "--all" : "--blif, --verilog or --dot";
+}
+
+command *read_options(int argc, char **argv, struct request *request)
+{
+    *request = (struct request){.operand = argv};
+    unsigned taken = take_options(argc, argv, request);
+    if (request->operands == 0)
+        fail(MISUSED, "no command; see pilgodur --help");
+    const char *name = request->operand[0];
+    size_t i = 0;
+    while (i < sizeof commands / sizeof *commands && strcmp(commands[i].name, name) != 0)
+        i++;
+    if (i == sizeof commands / sizeof *commands)
+        fail(MISUSED, "%s: no such command; see pilgodur --help", name);
+    if ((taken & ~commands[i].takes) != 0)
+        fail(MISUSED, "%s takes no %s; see pilgodur --help", name, option_text(taken & ~commands[i].takes));
+    request->operand++;
+    request->operands--;
+    count_operands(name, request, commands[i].least, commands[i].most);
+    return commands[i].perform;
+}

@@ -1,0 +1,22 @@
+/* Exit statuses, and messages on standard error that end the program. */
+#ifndef REPORT_H
+#define REPORT_H
+
+#include <stdint.h>
+
+enum status {
+    ANSWERED = 0,
+    SAID_NO = 1, /* a numbered question, or compare: the lists differ */
+    MISUSED = 2, /* the command line is wrong */
+    FAILED = 3,  /* a file cannot be read or written */
+};
+
+/* Says "pilgodur: " and the message, and ends the program. */
+__attribute__((format(printf, 2, 3)))
+_Noreturn void fail(enum status status, const char *format, ...);
+
+/* The same for a refusal: the message names what is refused, and the question with its number follows. */
+__attribute__((format(printf, 2, 3)))
+_Noreturn void refuse(uint32_t refusal, const char *format, ...);
+
+#endif

@@ -1,0 +1,34 @@
+#include "show.h"
+
+#include <inttypes.h>
+#include <stdbool.h>
+
+#include "netlist.h"
+#include "operands.h"
+
+const char *pair_meaning(unsigned yes, unsigned no)
+{
+    static const char *const meaning[] = {"no code, both low", "no", "yes", "no code, both high"};
+    return meaning[2 * yes + no];
+}
+
+void show_pair(FILE *out, unsigned output, unsigned yes, unsigned no)
+{
+    fprintf(out, "output %u: %u%u %s\n", output, yes, no, pair_meaning(yes, no));
+}
+
+void show_input(FILE *out, uint32_t input, unsigned contacts)
+{
+    fprintf(out, "input %" PRIu32 ", %s\n", input, contacts_at(input, contacts).text);
+}
+
+void show_lines(FILE *out, const uint8_t *values, unsigned count, const uint8_t *holds, size_t holds_length)
+{
+    size_t h = 0;
+    fprintf(out, "  line  value\n");
+    for (unsigned line = 0; line < count; line++) {
+        bool held = h < holds_length && two_bytes(holds + h) == line;
+        fprintf(out, "%6u  %5u%s\n", line, values[line], held ? "  held" : "");
+        h += held ? 3 : 0;
+    }
+}

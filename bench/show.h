@@ -1,0 +1,19 @@
+/* What several commands show. */
+#ifndef SHOW_H
+#define SHOW_H
+
+#include <stddef.h>
+#include <stdint.h>
+#include <stdio.h>
+
+/* The meaning of a pair. */
+const char *pair_meaning(unsigned yes, unsigned no);
+void show_pair(FILE *out, unsigned output, unsigned yes, unsigned no);
+
+/* The input's number, and which contacts are closed. */
+void show_input(FILE *out, uint32_t input, unsigned contacts);
+
+/* The value of every line, and which lines are held. */
+void show_lines(FILE *out, const uint8_t *values, unsigned count, const uint8_t *holds, size_t holds_length);
+
+#endif

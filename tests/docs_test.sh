@@ -1,0 +1,76 @@
+#!/bin/sh
+# The header, the program and README say the same: the questions behind the refusals, the version, the examples, the commands.
+#
+#     tests/docs_test.sh BENCH QUESTIONS [RESULTS]
+#
+# QUESTIONS prints the header's questions (tests/questions.c). RESULTS, build/docs_test if it is left out, is emptied.
+set -u
+
+if [ $# -lt 2 ]; then
+    echo "usage: tests/docs_test.sh BENCH QUESTIONS [RESULTS]" >&2
+    exit 2
+fi
+root=$(cd "$(dirname "$0")/.." && pwd) || exit 2
+bench=$(realpath "$1") && questions=$(realpath "$2") || exit 2
+results=${3:-$root/build/docs_test}
+rm -rf "$results" && mkdir -p "$results" && cd "$results" || exit 2
+
+failures=0
+
+# same WHAT FILE FILE
+same() {
+    if ! diff -u "$2" "$3"; then
+        echo "FAILED: $1"
+        failures=$((failures + 1))
+    fi
+}
+
+"$questions" >header || failures=$((failures + 1))
+sed -n '/^| number | no to |$/,/^$/p' "$root/README.md" | sed -n '/^| [0-9]/p' >readme
+same "README's questions are the header's" header readme
+
+# refused COMMAND...: the question by which the program refuses, as a row of the table.
+refused() {
+    "$bench" "$@" 2>&1 >/dev/null | sed -n 's/.*: refused, number \([0-9]*\): \(.*\) No\.$/| \1 | \2 |/p' >>program
+}
+selector=$root/examples/selector
+refused check hex:0100010102000100030003
+refused check hex:
+refused check hex:01000101020000
+refused check hex:0100010102000100
+refused check hex:01000101020001000300020002
+refused check hex:0100010202000100030002000103000400010001
+refused check hex:0100010202000100030002010003000400010100
+refused check hex:010001020200010003000200000300020001
+refused read-off "$selector.table" 8
+refused run "$selector.table" 0
+refused run hex:01000101040005020002000305000400040003 0
+refused run "$selector.netlist" hex:00
+refused probe "$selector.table" 17=0
+sed '/^| 9 /d' header >asked # the program lends buffers that are long enough
+same "the program's questions are the header's" asked program
+
+sed -n 's/^#define PILGODUR_VERSION "\(.*\)"$/pilgodur \1/p' "$root/include/pilgodur.h" >version
+"$bench" --version >said
+same "the version" version said
+
+sed -n '/^```c$/,/^```$/p' "$root/README.md" | sed '/^```/d' >example
+same "README's example is tests/example.c" "$root/tests/example.c" example
+
+cp "$selector.table" .
+echo 'hex:0100010304002d0000030005000002000500000300040000020004010008000900000c000700000c000601000d000a01000e000b0500040010000f' >theirs.netlist
+sed -n '/^    \$ pilgodur compare/,/^$/p' "$root/README.md" | sed '1d; $d; s/^    //' >compared
+"$bench" compare selector.table theirs.netlist >said
+same "README's example of compare" said compared
+
+"$bench" --help | sed -n 's/^  \([a-z][a-z-]*\) .*/\1/p' >commands
+while read -r command; do
+    grep -q "^| \`$command " "$root/README.md" || {
+        echo "FAILED: README has no row for $command"
+        failures=$((failures + 1))
+    }
+done <commands
+[ "$(wc -l <commands)" -ge 9 ] || failures=$((failures + 1))
+
+echo "docs: $failures differences"
+[ "$failures" -eq 0 ]

@@ -1,0 +1,74 @@
+#!/bin/sh
+# Exports the examples and random netlists in every form, reads each export back and runs it against the library. Where yosys, abc
+# and dot are installed they read them, too, and yosys proves that the BLIF and the Verilog of a board are the same.
+#
+#     tests/exports_test.sh BENCH READBACK NETLISTS [RESULTS]
+#
+# RESULTS, build/exports if it is left out, is emptied and gets the exports.
+set -u
+
+if [ $# -lt 3 ]; then
+    echo "usage: tests/exports_test.sh BENCH READBACK NETLISTS [RESULTS]" >&2
+    exit 2
+fi
+root=$(cd "$(dirname "$0")/.." && pwd) || exit 2
+bench=$(realpath "$1") && readback=$(realpath "$2") && netlists=$(realpath "$3") || exit 2
+results=${4:-$root/build/exports}
+rm -rf "$results" && mkdir -p "$results" && cd "$results" || exit 2
+
+exports=0
+failures=0
+
+complain() {
+    echo "FAILED: $*"
+    failures=$((failures + 1))
+}
+
+# read_elsewhere NAME: the board's exports in other tools.
+read_elsewhere() {
+    if command -v yosys >/dev/null; then
+        yosys -q -p "read_verilog $1.verilog; rename permit_board in_verilog; read_blif $1.blif
+            miter -equiv -flatten in_verilog permit_board both; sat -verify -prove trigger 0 both" >yosys.log 2>&1 ||
+            complain "yosys: $1"
+    fi
+    if command -v abc >/dev/null; then
+        abc -q "read_blif $1.blif; strash; print_stats" >abc.log 2>&1 && ! grep -qi 'error\|fail' abc.log || complain "abc: $1"
+    fi
+    if command -v dot >/dev/null; then
+        dot -Tcanon "$1.dot" >dot.log 2>&1 || complain "dot: $1"
+    fi
+}
+
+for board in selector single lift widest; do
+    "$bench" build "$root/examples/$board.table" -o $board.netlist || complain "build $board"
+    cp "$root/examples/$board.table" $board.table
+done
+# Every constant and rail as a source and as an output, and gates that have one source twice.
+"$bench" list hex:0100010204001400000100020100000004000005000501000600060500080000000100080003 >/dev/null || complain "constants"
+printf '\001\000\001\002\004\000\024\000\000\001\000\002\001\000\000\000\004\000\000\005\000\005\001\000\006\000\006' >constants.netlist
+printf '\005\000\010\000\000\000\001\000\010\000\003' >>constants.netlist
+for seed in 1 2 3 4 5 6 7 8 45; do # the last has 10,557 gates
+    "$netlists" $seed >random$seed.netlist
+done
+
+for netlist in *.netlist; do
+    name=${netlist%.netlist}
+    for form in blif verilog dot; do
+        exports=$((exports + 1))
+        "$bench" export $netlist --$form -o "$name.$form" || complain "export $netlist --$form"
+        "$readback" $form "$name.$form" $netlist || complain "$name.$form"
+        [ ! -e "$name.table" ] || "$bench" export "$name.table" --$form | cmp - "$name.$form" || complain "export $name.table --$form"
+    done
+    read_elsewhere "$name"
+done
+
+# A reader that accepts anything would prove nothing: exports of another board are refused.
+for form in blif verilog dot; do
+    for spoilt in 's/l10/l9/' 's/and\b/or/;s/AND/OR/;s/^11 1/1- 1/' 's/output0_true/output0_false/' '$d'; do
+        sed "$spoilt" selector.$form >spoilt
+        "$readback" $form spoilt selector.netlist >/dev/null && complain "the reader accepts $form after $spoilt"
+    done
+done
+
+echo "exports: $exports, $failures failed"
+[ "$failures" -eq 0 ]

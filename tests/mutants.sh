@@ -1,0 +1,158 @@
+#!/bin/bash
+# Wrong versions of the bench program: each is made by an edit of one file, and some test must fail on it.
+#
+#     tests/mutants.sh COMPILE FAILING LIBRARY
+#
+# COMPILE is the compiler with its flags, FAILING the flags that link the bench so that calls can be made to fail. Everything goes to
+# build/mutants. A wrong version could harm files of the system, so for root it runs as a user without rights. Exit status 0: every
+# wrong version was found out.
+set -u
+
+if [ $# -ne 3 ]; then
+    echo "usage: tests/mutants.sh COMPILE FAILING LIBRARY" >&2
+    exit 2
+fi
+read -ra compile <<<"$1"
+read -ra failing <<<"$2"
+root=$(cd "$(dirname "$0")/.." && pwd) && library=$(realpath "$3") && cd "$root" || exit 2
+folder=$root/build/mutants
+rm -rf "$folder" && mkdir -p "$folder/bench" && cp -r include "$folder" && cp bench/*.c bench/*.h "$folder/bench" || exit 2
+
+harmless=()
+if [ "$(id -u)" -eq 0 ]; then
+    harmless=(chroot --userspec=65534:65534 --skip-chdir /)
+    chown -R 65534:65534 "$folder"
+    if ! "${harmless[@]}" test -r "$folder/bench/save.c"; then
+        echo "another user than root must be able to read this folder, or run this as another user" >&2
+        exit 2
+    fi
+fi
+
+count=0
+survivors=0
+
+limited() {
+    STOP=1 timeout 60 "${harmless[@]}" "$@"
+}
+
+# tested PROGRAM FAILING: the tests of the bench, the quickest to fail first. A test that does not end has failed.
+tested() {
+    limited tests/bench_test.sh "$1" "$folder/bench_test" &&
+        limited tests/save_test.sh "$1" "$2" "$folder/save_test" &&
+        limited tests/terminal_test.sh build/terminal "$1" &&
+        limited tests/docs_test.sh "$1" build/questions "$folder/docs_test" &&
+        limited tests/exports_test.sh "$1" build/readback build/netlists "$folder/exports"
+}
+
+# wrong FILE WHAT EDIT: the bench with one file edited by sed.
+wrong() {
+    local file=$1 what=$2 objects=()
+    count=$((count + 1))
+    sed "$3" "bench/$file.c" >"$folder/bench/$file.c"
+    if cmp -s "bench/$file.c" "$folder/bench/$file.c"; then
+        echo "NOT MADE: $what ($file.c)"
+        survivors=$((survivors + 1))
+        return
+    fi
+    for object in build/program/*.o; do
+        [ "$object" = "build/program/$file.o" ] || objects+=("$object")
+    done
+    if ! "${compile[@]}" -w -c "$folder/bench/$file.c" -o "$folder/wrong.o" 2>"$folder/log" ||
+        ! "${compile[@]}" "$folder/wrong.o" "${objects[@]}" "$library" -o "$folder/pilgodur" 2>>"$folder/log" ||
+        ! "${compile[@]}" "${failing[@]}" "$folder/wrong.o" "${objects[@]}" tests/failing.c "$library" -o "$folder/failing" 2>>"$folder/log"; then
+        echo "NOT COMPILED: $what ($file.c)"
+        cat "$folder/log"
+        survivors=$((survivors + 1))
+    elif tested "$folder/pilgodur" "$folder/failing" >"$folder/log" 2>&1; then
+        echo "SURVIVED: $what ($file.c)"
+        survivors=$((survivors + 1))
+    fi
+}
+
+wrong load "reading stops after the first 4,096 bytes" 's/while ((count = fread/if ((count = fread/'
+wrong load "read errors are ignored" 's/ferror(stream) || //'
+wrong load "hex: text is not recognised in a file" 's/if (is_marked(file->at, file->length))/if (is_marked(operand, strlen(operand)))/'
+wrong load "white space within hex: text is refused" 's/" .t.r.n"/"~"/'
+wrong load "half a byte of hex: text is dropped" 's/if (digits % 2 != 0)/if (false)/'
+wrong load "a sign that is no hex digit counts as 0" 's/if (digit < 0)/if (false)/'
+wrong load "capital hex digits are lower ones plus 6" 's/ - 6;/;/'
+wrong load "@ stands for itself" "s/operand\[0\] == '@'/false/"
+wrong load "a missing file is wrong usage" 's/fail(FAILED, "%s: %s%s"/fail(MISUSED, "%s: %s%s"/'
+wrong save "write errors with -o are ignored" 's/&& write_all(out, bytes, length) &&/\&\& (write_all(out, bytes, length), true) \&\&/'
+wrong save "close errors with -o are ignored" 's/if (close(out) != 0 && written)/if (close(out) != 0 \&\& false)/'
+wrong save "the file is not flushed to the disk" 's/ && fsync(out) == 0//'
+wrong save "rename errors are ignored" 's/&& rename(temporary, path) == 0/\&\& (rename(temporary, path), true)/'
+wrong save "the temporary file stays after an error" 's/    unlink(temporary);//'
+wrong save "permissions are those of the temporary file" 's/fchmod(out, mode) == 0/fchmod(out, 0600) == 0/'
+wrong save "permissions of the old file are lost" 's/mode & 0777/0666/'
+wrong save "the mask is ignored" 's/0666 & ~mask/0666/'
+wrong save "a link is replaced" 's/realpath(path, NULL)/strdup(path)/'
+wrong save "an input is overwritten" 's/read\[i\].inode == target->st_ino/false/'
+wrong save "an input on standard output is overwritten" 's/refuse_if_read(&target, "standard output"/if (false) &/'
+wrong save "a device is replaced" 's/if (S_ISREG(target.st_mode))/if (true)/'
+wrong save "write errors on a device are ignored" 's/|| !write_all(out, bytes, length) || close/|| (write_all(out, bytes, length), false) || close/'
+wrong save "close errors on a device are ignored" 's/|| close(out) != 0)/|| (close(out), false))/'
+wrong save "write errors on standard output are ignored" 's/if (!write_all(STDOUT_FILENO, bytes, length))/if (write_all(STDOUT_FILENO, bytes, length), false)/'
+wrong save "an interrupted write fails" 's/count < 0 && errno != EINTR/count < 0/'
+wrong save "a write that takes some bytes is not taken up again" 's/while (length > 0) {/for (int once = 0; once < 1; once++) {/'
+wrong save "a signal ends a write half-way" 's/sigprocmask(SIG_BLOCK, &signals, &before)/sigemptyset(\&before)/'
+wrong save "a file that grows too large ends the program" 's/signal(SIGXFSZ, SIG_IGN);//'
+wrong save "a file that may not be written is replaced" 's/|| access(real, W_OK) != 0//'
+wrong report "refusals on standard output" 's/fprintf(stderr, ": refused/fprintf(stdout, ": refused/'
+wrong report "messages on standard output" 's/stderr/stdout/'
+wrong report "a refusal is wrong usage" 's/exit(SAID_NO)/exit(MISUSED)/'
+wrong report "a refusal is an answer" 's/exit(SAID_NO)/exit(ANSWERED)/'
+wrong report "the question of the number before" 's/questions\[refusal\]/questions[refusal - 1]/'
+wrong operands "hold line 65,536 is line 0" 's/read_digits(text, UINT16_MAX, &line)/read_digits(text, UINT32_MAX, \&line)/'
+wrong operands "hold value 256 is 0" 's/read_digits(equals + 1, UINT8_MAX, &value)/read_digits(equals + 1, UINT32_MAX, \&value)/'
+wrong operands "numbers wrap" 's/            sum = most;/            sum %= (uint64_t)most + 1;/'
+wrong operands "an input out of range is cut off" 's/if (input->number >> contacts != 0)/if (false)/'
+wrong operands "the last contact first in what is read" 's/\[MARK + i\] == .1./[MARK + input.signs - 1 - i] == 0x31/'
+wrong operands "the last contact first in what is shown" 's/shown.text\[MARK + i\]/shown.text[MARK + contacts - 1 - i]/'
+wrong operands "signs are not counted" 's/input->signs != 0 && input->signs != contacts/false/'
+wrong operands "signs are not looked at" "s/input.signs == 0 || text\[MARK + input.signs\] != '.0'/false/"
+wrong operands "both rails alike" 's/= !rails\[2 \* i\]/= rails[2 * i]/'
+wrong operands "text after a hold is ignored" "s/ || \*end != '.0')/)/"
+wrong netlist "a 12-contact netlist is refused" 's/<= MOST_CONTACTS/< MOST_CONTACTS/'
+wrong netlist "netlists are taken for tables" 's/file->at\[4\] == GATES/false/'
+wrong netlist "no questions are asked of a netlist" 's/if (refusal != 0)/if (false)/'
+wrong netlist "AND and OR exchanged" 's/at\[0\] == 0/at[0] == 1/'
+wrong netlist "lines are taken low byte first" 's/256u \* at\[0\] + at\[1\]/256u * at[1] + at[0]/'
+wrong netlist "a message does not name the file" 's/refuse(built.refusal, "%s", table->name)/refuse(built.refusal, "table")/'
+wrong show "the mark of a held line is lost after the first" 's/bool held = h < holds_length/bool held = h == 0 \&\& h < holds_length/'
+wrong show "pairs false rail first" 's/"output %u: %u%u %s.n", output, yes, no/"output %u: %u%u %s\\n", output, no, yes/'
+wrong on_table "line values from one line further on" 's/room + netlist,/room + netlist + 1,/'
+wrong on_table "build with -o writes text" 's/request->output != NULL/false/'
+wrong on_table "output 0 has the largest weight" 's/reading.word >> j/reading.word >> (checked.outputs - 1 - j)/'
+wrong on_netlist "gates are numbered from 0" 's/first_gate(&netlist) + g, gate.kind/g, gate.kind/'
+wrong on_netlist "only the first hold is used" 's/holds->at, 3 \* count, lines/holds->at, count > 0 ? 3 : 0, lines/'
+wrong on_netlist "the netlist is not asked about before the input" 's/struct netlist netlist = netlist_in(load_operand(request, 0));/uint8_t room[PILGODUR_FILE_MAX]; struct netlist netlist = netlist_in_or_of(load_operand(request, 0), room);/'
+wrong on_netlist "the first hold is named for any" 's/return count - 1;/return 0;/'
+wrong compare "kinds are not compared" 's/"%-4s %6u  %6u", g.kind/"%-4s %6u  %6u", "OR"/'
+wrong compare "second sources are not compared" 's/g.first, g.second/g.first, 0/'
+wrong compare "outputs are not compared" 's/ && count_differing(side, &outputs) == 0;/;/'
+wrong compare "only the gates that both have are compared" 's/return a > b ? a : b;/return a < b ? a : b;/'
+wrong compare "different lists are an answer" 's/return alike ? ANSWERED : SAID_NO;/return ANSWERED;/'
+wrong compare "the permits of output 0 alone" 's/j < side\[A\].outputs; j++/j < 1; j++/'
+wrong compare "a difference in the false rail alone is no difference" 's/x\[0\] == y\[0\] && x\[1\] == y\[1\]/x[0] == y[0]/'
+wrong dictionary "rails are left out" 's/unsigned line = 2; line < lines/unsigned line = 2 + 2 * checked.contacts; line < lines/'
+wrong dictionary "lines held at 0 alone" 's/value < 2; value++/value < 1; value++/'
+wrong dictionary "progress where there is no terminal" 's/isatty(STDERR_FILENO) == 1/true/'
+wrong dictionary "no progress on a terminal" 's/isatty(STDERR_FILENO) == 1/false/'
+wrong export "true and false exchanged" 's/rail == 0 ? pair.yes : pair.no/rail == 1 ? pair.yes : pair.no/'
+wrong export "AND and OR exchanged in BLIF" 's/is_or(gate) ? "1-/!is_or(gate) ? "1-/'
+wrong export "AND and OR exchanged in Verilog" 's/is_or(&gate) ? "or"/!is_or(\&gate) ? "or"/'
+wrong export "sources exchanged in Verilog" 's/line, line, gate.first, gate.second/line, line, gate.second, gate.first/'
+wrong export "constants are left out" 's/if (is_read(netlist, line))/if (false)/'
+wrong export "the constant 1 is 0 in BLIF" 's/".names l1.n1.n"/".names l1\\n"/'
+wrong export "gates are numbered from 0 in DOT" 's/unsigned line = first_gate(netlist) + g;/unsigned line = g;/'
+wrong options "unknown options are operands" 's/        refuse_option(found, word);/        request->operand[request->operands++] = (char *)word; return 0;/'
+wrong options "options must stand first" 's/"-:o:hV"/"+:o:hV"/'
+wrong options "any option for any command" 's/if ((taken & ~commands\[i\].takes) != 0)/if (false)/'
+wrong options "operands too many are ignored" 's/if (request->operands > most)/if (false)/'
+wrong options "standard input is read twice" 's/if (standard_inputs > 1)/if (false)/'
+wrong options "the last -o counts" 's/if (request->output != NULL)/if (false)/'
+wrong pilgodur "an answer is not written" 's/    save(request.output/    if (status != ANSWERED) &/'
+
+echo "wrong versions of the bench: $count, not found out: $survivors"
+[ "$survivors" -eq 0 ]

@@ -1,0 +1,18 @@
+/* Prints the header's questions as the rows of README's table. Exit status 1: the parts of the version are not the version. */
+#include <stdio.h>
+#include <string.h>
+
+#include "../include/pilgodur.h"
+
+_Static_assert(PILGODUR_REFUSAL_NONE == 0 && PILGODUR_REFUSAL_FIELDS == 1 && PILGODUR_REFUSAL_HOLDS == 14, "the refusals' numbers");
+_Static_assert(PILGODUR_WAY_BOTH_LOW == 0 && PILGODUR_WAY_BOTH_HIGH == 1, "the ways' numbers");
+
+#define ROW(number, name, text) printf("| %d | %s |\n", name, text);
+
+int main(void)
+{
+    char version[32];
+    PILGODUR_QUESTIONS(ROW)
+    snprintf(version, sizeof version, "%d.%d.%d", PILGODUR_VERSION_MAJOR, PILGODUR_VERSION_MINOR, PILGODUR_VERSION_PATCH);
+    return strcmp(version, PILGODUR_VERSION) == 0 ? 0 : 1;
+}

@@ -1,0 +1,145 @@
+/* Eight threads call every service on the same files at once, each on a small stack, and compare every answer with the one that was
+ * given before there was a thread. Then services get strings that overlap where the header allows it.
+ *
+ *     threads [ROUNDS]                 exit status 0: every answer was the same */
+#define _XOPEN_SOURCE 700
+#include <pthread.h>
+#include <stdbool.h>
+#include <stdio.h>
+#include <stdlib.h>
+#include <string.h>
+
+#include "../include/pilgodur.h"
+#include "tables.h"
+
+enum { THREADS = 8, BOARDS = 24, BUFFER = PILGODUR_FILE_MAX + PILGODUR_LINES_MAX };
+enum { STACK = 512 * 1024 }; /* the header says 270 KB for probe */
+
+/* What all threads read: a table, rails, holds and an input, some of them damaged. */
+struct board {
+    uint8_t table[TABLE_MAX];
+    size_t table_length;
+    uint8_t netlist[PILGODUR_FILE_MAX];
+    size_t netlist_length;
+    uint8_t rails[24];
+    size_t rails_length;
+    uint8_t hold[3];
+    uint32_t input;
+};
+
+/* What the services answer on a board. */
+struct answers {
+    pilgodur_checked checked;
+    pilgodur_built built;
+    pilgodur_reading reading;
+    uint32_t run;
+    pilgodur_probed probed;
+    uint8_t file[PILGODUR_FILE_MAX];
+    uint8_t lines[PILGODUR_LINES_MAX];
+    uint8_t pairs[PILGODUR_PAIRS_MAX];
+    uint8_t probe[BUFFER];
+};
+
+static struct board boards[BOARDS];
+static struct answers expected[BOARDS];
+static struct answers given[THREADS];
+static unsigned rounds = 30;
+
+static void ask(const struct board *b, struct answers *a)
+{
+    memset(a, 0, sizeof *a);
+    a->checked = pilgodur_check(b->table, b->table_length);
+    a->built = pilgodur_build(b->table, b->table_length, a->file, sizeof a->file);
+    a->reading = pilgodur_read_off(b->table, b->table_length, b->input);
+    a->run = pilgodur_run(b->netlist, b->netlist_length, b->rails, b->rails_length, b->hold, sizeof b->hold, a->lines,
+                          sizeof a->lines, a->pairs, sizeof a->pairs);
+    a->probed = pilgodur_probe(b->table, b->table_length, b->hold, sizeof b->hold, a->probe, sizeof a->probe);
+}
+
+static void draw_board(struct dice *dice, struct board *b)
+{
+    struct diagram diagram;
+    if (chance(dice, 20))
+        largest_diagram(dice, 12, &diagram);
+    else
+        random_diagram(dice, 1 + roll(dice, 12), 1 + roll(dice, 8), &diagram);
+    b->table_length = table_of(&diagram, b->table);
+    b->netlist_length = pilgodur_build(b->table, b->table_length, b->netlist, sizeof b->netlist).length;
+    b->rails_length = 2 * (size_t)diagram.contacts;
+    for (size_t i = 0; i < b->rails_length; i++)
+        b->rails[i] = (uint8_t)roll(dice, 2);
+    unsigned line = 2 + roll(dice, 2 * diagram.contacts);
+    memcpy(b->hold, (uint8_t[]){(uint8_t)(line / 256), (uint8_t)line, (uint8_t)roll(dice, 2)}, 3);
+    b->input = roll(dice, 1u << diagram.contacts);
+    if (chance(dice, 20))
+        b->table[roll(dice, (uint32_t)b->table_length)] ^= 1;
+}
+
+/* Returns NULL if every answer is as expected. */
+static void *work(void *argument)
+{
+    struct answers *mine = argument;
+    for (unsigned round = 0; round < rounds; round++)
+        for (unsigned i = 0; i < BOARDS; i++) {
+            ask(&boards[i], mine);
+            if (memcmp(mine, &expected[i], sizeof *mine) != 0)
+                return mine;
+        }
+    return NULL;
+}
+
+static bool run_threads(void)
+{
+    pthread_t thread[THREADS];
+    pthread_attr_t small;
+    bool same = true;
+    pthread_attr_init(&small);
+    if (pthread_attr_setstacksize(&small, STACK) != 0)
+        return false;
+    for (unsigned i = 0; i < THREADS; i++)
+        if (pthread_create(&thread[i], &small, work, &given[i]) != 0) {
+            perror("pthread_create");
+            exit(2);
+        }
+    for (unsigned i = 0; i < THREADS; i++) {
+        void *result;
+        pthread_join(thread[i], &result);
+        same = same && result == NULL;
+    }
+    pthread_attr_destroy(&small);
+    return same;
+}
+
+/* Strings that are only read may overlap: the hold 0 2 0 within the selector's table, rails 0 1 and the same hold within a netlist. */
+static bool overlaps(void)
+{
+    static const uint8_t table[] = {1, 0, 1, 3, 2, 0, 1, 0, 3, 0, 2, 0, 1, 3, 0, 4, 0, 1, 0, 2, 3, 0, 6, 0, 1, 0, 0, 1, 1};
+    static const uint8_t netlist[] = {1, 0, 1, 1, 4, 0, 0, 5, 0, 4, 0, 2, 0, 3};
+    static const uint8_t hold[] = {0, 2, 0}, rails[] = {0, 1};
+    static uint8_t buffer[2][BUFFER];
+    uint8_t lines[2][4], pairs[2][2];
+    pilgodur_probed apart = pilgodur_probe(table, sizeof table, hold, sizeof hold, buffer[0], BUFFER);
+    pilgodur_probed within = pilgodur_probe(table, sizeof table, table + 9, 3, buffer[1], BUFFER);
+    uint32_t run_apart = pilgodur_run(netlist, sizeof netlist, rails, 2, hold, 3, lines[0], 4, pairs[0], 2);
+    uint32_t run_within = pilgodur_run(netlist, sizeof netlist, netlist + 1, 2, netlist + 10, 3, lines[1], 4, pairs[1], 2);
+    return memcmp(&apart, &within, sizeof apart) == 0 && apart.refusal == 0 && memcmp(buffer[0], buffer[1], BUFFER) == 0 &&
+           run_apart == 0 && run_within == 0 && memcmp(lines[0], lines[1], 4) == 0 && memcmp(pairs[0], pairs[1], 2) == 0;
+}
+
+int main(int argc, char **argv)
+{
+    struct dice dice = {1};
+    unsigned answered = 0;
+    if (argc > 1)
+        rounds = (unsigned)strtoul(argv[1], NULL, 10);
+    for (unsigned i = 0; i < BOARDS; i++) {
+        draw_board(&dice, &boards[i]);
+        ask(&boards[i], &expected[i]);
+        answered += expected[i].probed.refusal == 0;
+    }
+    bool threads_agree = run_threads();
+    bool overlaps_agree = overlaps();
+    printf("threads: %d threads, %d boards (%u accepted), %u rounds: %s; overlapping strings: %s\n", THREADS, BOARDS, answered, rounds,
+           threads_agree ? "the same answers" : "DIFFERENT ANSWERS", overlaps_agree ? "the same answers" : "DIFFERENT ANSWERS");
+    return threads_agree && overlaps_agree && answered > BOARDS / 2 && answered < BOARDS ? 0 : 1;
+}
