@@ -10,7 +10,7 @@
 #include "report.h"
 
 static const char hex_mark[] = "hex:";
-enum { MARK = sizeof hex_mark - 1, FIRST_ROOM = 4096 };
+enum { MARK = sizeof hex_mark - 1, FIRST_ROOM = 4096, MOST = 1 << 24 };
 
 static bool is_marked(const void *bytes, size_t length)
 {
@@ -73,6 +73,8 @@ static void load_stream(FILE *stream, struct file *file)
     make_room(file, room);
     while ((count = fread(file->at + file->length, 1, room - file->length, stream)) != 0) {
         file->length += count;
+        if (file->length > MOST)
+            fail(FAILED, "%s: it has more than %d bytes, which no table or netlist needs", file->name, MOST);
         if (file->length == room)
             make_room(file, room *= 2);
     }

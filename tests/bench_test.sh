@@ -151,6 +151,7 @@ pipe 'pilgodur build selector.table | pilgodur list -'
 pipe 'pilgodur build selector.table >selector.hex; pilgodur compare selector.hex selector.table'
 pipe 'pilgodur build widest.table | fold -w 79 >widest.hex; pilgodur compare widest.hex widest.table'
 pipe 'printf "hex:01 00 01 01\r\n\t02 00 01 00\r\n03 00 02 00 01\r\n" | pilgodur check -'
+pipe 'pilgodur build selector.table | tr abcdf ABCDF | pilgodur compare - selector.table'
 pipe 'printf "HEX:" | pilgodur check -'
 pipe 'printf "hex:0100:" >bad.hex; pilgodur check bad.hex'
 pipe 'printf "hex:01000" | pilgodur check -'
@@ -334,6 +335,8 @@ try compare - -
 try run - -
 pipe 'POSIXLY_CORRECT=1 "$bench" build single.table -o - | cksum'
 try check no-such.table
+pipe 'head -c 16777217 /dev/zero | pilgodur check -'
+pipe 'head -c 16777216 /dev/zero | pilgodur check -'
 try check .
 try check ''
 pipe 'pilgodur check - <&-'

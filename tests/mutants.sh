@@ -4,8 +4,9 @@
 #     tests/mutants.sh COMPILE FAILING LIBRARY
 #
 # COMPILE is the compiler with its flags, FAILING the flags that link the bench so that calls can be made to fail. Everything goes to
-# build/mutants. A wrong version could harm files of the system, so for root it runs as a user without rights. Exit status 0: every
-# wrong version was found out.
+# build/mutants. A wrong version could harm files of the system, so for root it runs as a user without rights. The right version must
+# pass first. If the variable ONLY is set just the wrong versions are tried whose description has it. Exit status 0: every one was
+# found out.
 set -u
 
 if [ $# -ne 3 ]; then
@@ -47,6 +48,7 @@ tested() {
 # wrong FILE WHAT EDIT: the bench with one file edited by sed.
 wrong() {
     local file=$1 what=$2 objects=()
+    [[ $what == *"${ONLY-}"* ]] || return
     count=$((count + 1))
     sed "$3" "bench/$file.c" >"$folder/bench/$file.c"
     if cmp -s "bench/$file.c" "$folder/bench/$file.c"; then
@@ -69,7 +71,14 @@ wrong() {
     fi
 }
 
+if ! tested "$root/build/pilgodur" "$root/build/pilgodur-failing" >"$folder/log" 2>&1; then
+    cat "$folder/log"
+    echo "the right version fails, so nothing is known of the wrong ones"
+    exit 1
+fi
+
 wrong load "reading stops after the first 4,096 bytes" 's/while ((count = fread/if ((count = fread/'
+wrong load "reading never stops" 's/file->length > MOST/false/'
 wrong load "read errors are ignored" 's/ferror(stream) || //'
 wrong load "hex: text is not recognised in a file" 's/if (is_marked(file->at, file->length))/if (is_marked(operand, strlen(operand)))/'
 wrong load "white space within hex: text is refused" 's/" .t.r.n"/"~"/'
