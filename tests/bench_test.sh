@@ -277,7 +277,7 @@ judge
 transcript dictionary
 try dictionary selector.table
 try dictionary single.table
-pipe 'pilgodur dictionary widest.table | cksum'
+pipe '(ulimit -t 1; pilgodur dictionary widest.table) | cksum' # in a second of processor time
 try dictionary lift.table -o lift.csv
 pipe 'head -n 3 lift.csv; wc -l <lift.csv'
 try dictionary $q6
