@@ -94,15 +94,15 @@ static void set_format(struct request *request, enum format format)
     request->format = format;
 }
 
+/* getopt_long leaves the letter in optopt, or what stands for a long option that has a value against the rules, or 0. */
 static _Noreturn void refuse_option(int found, const char *word)
 {
-    bool is_long = strncmp(word, "--", 2) == 0;
     if (found == ':')
         fail(MISUSED, "%s: a file must follow", word);
-    if (is_long && optopt != 0)
-        fail(MISUSED, "%s: this option takes no value", word);
-    if (is_long)
+    if (optopt == 0)
         fail(MISUSED, "%s: no such option; see pilgodur --help", word);
+    if (optopt >= LINES || optopt == HELP || optopt == VERSION)
+        fail(MISUSED, "%s: this option takes no value", word);
     fail(MISUSED, "-%c: no such option; see pilgodur --help", optopt);
 }
 

@@ -316,7 +316,9 @@ try list selector.table --blif
 try list selector.table --mend
 try list selector.table -x
 try list -xV selector.table
+try run --lines -xV
 try list selector.table --lines=3
+try list selector.table --help=3
 try list selector.table --ver
 try build selector.table -o
 try build selector.table --output
