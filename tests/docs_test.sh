@@ -1,5 +1,6 @@
 #!/bin/sh
-# The header, the program and README say the same: the questions behind the refusals, the version, the examples, the commands.
+# The header, the program, README and docs/RULES.md say the same: the questions behind the refusals, the version, the examples, the
+# commands, the worked boards.
 #
 #     tests/docs_test.sh BENCH QUESTIONS [RESULTS]
 #
@@ -71,6 +72,34 @@ while read -r command; do
     }
 done <commands
 [ "$(wc -l <commands)" -ge 9 ] || failures=$((failures + 1))
+
+# The worked boards of docs/RULES.md. A table stands in the first block of a section, with words behind its bytes.
+section() {
+    sed -n "/^## $1/,/^## /p" "$root/docs/RULES.md"
+}
+bytes() {
+    sed -n 's/^     *\(\([0-9a-f][0-9a-f]  *\)*[0-9a-f][0-9a-f]\)\(  .*\)*$/\1/p' | tr -d ' \n'
+}
+# The gates of a text as rows, and those that the program lists.
+gates() {
+    grep -o '[0-9][0-9]* *=* *\(AND\|OR\) [0-9][0-9]* [0-9][0-9]*' | tr -d '=' | tr -s ' '
+}
+listed() {
+    "$bench" list "hex:$1" | sed -n 's/^ *\([0-9]*\) *\(AND\|OR\) *\([0-9]*\) *\([0-9]*\)$/\1 \2 \3 \4/p'
+}
+section 'The selector' | sed '/Rails:/,$d' | bytes >table
+section 'The selector' | sed '1,/netlist file/d' | bytes >netlist
+"$bench" build "hex:$(cat table)" >said
+sed 's/^/hex:/; s/$/\n/' netlist >page
+same "the selector's netlist in docs/RULES.md" said page
+section 'The selector' | gates >page
+listed "$(cat table)" >said
+same "the selector's gates in docs/RULES.md" said page
+section 'A second board' | sed '/matrices/,$d' | bytes >table
+section 'A second board' | gates >page
+listed "$(cat table)" >said
+same "the second board's gates in docs/RULES.md" said page
+[ "$(wc -l <page)" -eq 42 ] || failures=$((failures + 1))
 
 echo "docs: $failures differences"
 [ "$failures" -eq 0 ]
