@@ -12,8 +12,8 @@ use Rattle.rules.specs.declared.Entry.{Entry}
 use Rattle.rules.specs.declared.Entry.the-variants.{Always}
 use Rattle.rules.specs.Make.{Make, return, _>>=_}
 use Rattle.rules.specs.Blocks.{Matrix, entryAt, isAlways, term, linesIn, joined, cut, productEntry, product, levelEntry, block}
-use Rattle.gates.specs.Written.{Written, RoomFor}
-use Rattle.products.specs.Cells.{matrixOf, Stored}
+use Rattle.gates.specs.Inner.Written.{Written, RoomFor}
+use Rattle.products.specs.Inner.Cells.{matrixOf, Stored}
 use Rattle.gates.proofs.Binding.{sequence-same}
 use Rattle.products.proofs.Cells.{stored-same}
 use Rattle.rules.proofs.Cuts.{size-cut}
@@ -59,15 +59,15 @@ block-halves d l count more =
     rw (cut-halves count more, size-cut half (omega arith), size-cut (count - half) (omega arith)) (rw columns)
 
 -- A block of count levels from level l on is written, and its matrix stored.
-abbrev Built : Diagram → ℕ → ℕ → ℕ → ℕ → List ℕ → List ℕ → List ℕ → ℕ → Type 0
-Built d l count first made start out cells total =
+abbrev BuiltBlock : Diagram → ℕ → ℕ → ℕ → ℕ → List ℕ → List ℕ → List ℕ → ℕ → Type 0
+BuiltBlock d l count first made start out cells total =
     Written (block d (cut count) l) first made start out (block d (cut count) l (first + made) .1) total
     × Stored cells (entryAt (block d (cut count) l (first + made) .1)) (width d l) (width d (l + count))
 
 -- The product of the two stored matrices is that of the two blocks.
 product-is : (d : Diagram) (l count : ℕ) {first made n k : ℕ} {start between later left right : List ℕ} →
-    Built d l ((count + 1) / 2) first made start between left n →
-    Built d (l + (count + 1) / 2) (count - (count + 1) / 2) first n between later right k →
+    BuiltBlock d l ((count + 1) / 2) first made start between left n →
+    BuiltBlock d (l + (count + 1) / 2) (count - (count + 1) / 2) first n between later right k →
     product (width d l) (width d (l + (count + 1) / 2)) (width d (l + count)) (matrixOf left) (matrixOf right)
     ≡ product (width d l) (width d (l + (count + 1) / 2)) (width d (l + count)) (block d (cut ((count + 1) / 2)) l (first + made) .1)
     (block d (cut (count - (count + 1) / 2)) (l + (count + 1) / 2) (first + n) .1)
@@ -80,7 +80,7 @@ product-is d l count {first} {made} {n} {left = left} {right = right} a b =
 
 module _ (d : Diagram) (l : ℕ) {first made : ℕ} {start cells : List ℕ} where
   pub built-one : (count : ℕ) → count ≡ 1 → Stored cells (levelEntry d l) (width d l) (width d (suc l)) →
-      Built d l count first made start start cells made
+      BuiltBlock d l count first made start start cells made
   unfolding block
   built-one count e s =
       let columns : l + count ≡ suc l = omega arith in
@@ -88,8 +88,8 @@ module _ (d : Diagram) (l : ℕ) {first made : ℕ} {start cells : List ℕ} whe
       (written-return (levelOf d l), stored-same s (λ u v hu hv. sym (level-at d l u v hu hv)))
 
   pub built-two : (count : ℕ) {n k total : ℕ} {between later out left right : List ℕ} → 2 ≤ count →
-      Built d l ((count + 1) / 2) first made start between left n →
-      Built d (l + (count + 1) / 2) (count - (count + 1) / 2) first n between later right k →
+      BuiltBlock d l ((count + 1) / 2) first made start between left n →
+      BuiltBlock d (l + (count + 1) / 2) (count - (count + 1) / 2) first n between later right k →
       Written (product (width d l) (width d (l + (count + 1) / 2)) (width d (l + count)) (matrixOf left) (matrixOf right)) first k
       later out
       (product (width d l) (width d (l + (count + 1) / 2)) (width d (l + count)) (matrixOf left) (matrixOf right) (first + k) .1)
@@ -98,7 +98,7 @@ module _ (d : Diagram) (l : ℕ) {first made : ℕ} {start cells : List ℕ} whe
       (entryAt
       (product (width d l) (width d (l + (count + 1) / 2)) (width d (l + count)) (matrixOf left) (matrixOf right) (first + k) .1))
       (width d l) (width d (l + count)) →
-      Built d l count first made start out cells total
+      BuiltBlock d l count first made start out cells total
   built-two count more a b w s =
       let half = (count + 1) / 2 in
       let rest = count - half in
@@ -117,7 +117,7 @@ module _ (d : Diagram) (l count : ℕ) (more : 2 ≤ count) {first made : ℕ} {
   pub left-room : RoomFor (block d (cut ((count + 1) / 2)) l) first made start
   left-room = room-first _ _ (rw (block-halves d l count more) at room)
 
-  module _ {n : ℕ} {between left : List ℕ} (a : Built d l ((count + 1) / 2) first made start between left n)
+  module _ {n : ℕ} {between left : List ℕ} (a : BuiltBlock d l ((count + 1) / 2) first made start between left n)
       (kept : length between ≡ length start) where
     rest : RoomFor
         (block d (cut (count - (count + 1) / 2)) (l + (count + 1) / 2) >>=
@@ -129,6 +129,6 @@ module _ (d : Diagram) (l count : ℕ) (more : 2 ≤ count) {first made : ℕ} {
     right-room = room-first _ _ rest
 
     pub last-room : {k : ℕ} {later right : List ℕ} →
-        Built d (l + (count + 1) / 2) (count - (count + 1) / 2) first n between later right k → length later ≡ length between →
+        BuiltBlock d (l + (count + 1) / 2) (count - (count + 1) / 2) first n between later right k → length later ≡ length between →
         RoomFor (product (width d l) (width d (l + (count + 1) / 2)) (width d (l + count)) (matrixOf left) (matrixOf right)) first k later
     last-room b same = rw (product-is d l count a b) (room-then _ _ rest (b .0) same)

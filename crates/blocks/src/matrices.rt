@@ -8,8 +8,8 @@ ghost use Rattle.diagram.specs.Questions.{Sized};
 ghost use Rattle.diagram.specs.Diagram as diagrams;
 ghost use Rattle.rules.specs.Blocks.{cut, entryAt, levelEntry, nodeEntry};
 ghost use Rattle.rules.specs.Blocks as blocks;
-ghost use Rattle.gates.specs.Written.{Written, RoomFor};
-ghost use Rattle.products.specs.Cells.{Stored, RowStored};
+ghost use Rattle.gates.specs.Inner.Written.{Grown, RoomFor};
+ghost use Rattle.products.specs.Inner.Cells.{Stored, RowStored};
 
 // The number of nodes of a level; level n has two.
 fn width(d: Diagram, l: usize) -> usize
@@ -73,8 +73,9 @@ pub fn block(
 ) -> usize
     requires { ⌜ Sized d × (1 ≤ count) × (l + count ≤ d .contacts) × (64 ≤ length (now cells)) ⌝ }
     requires { ⌜ (2 ≤ first) × RoomFor (blocks.block d (cut count) l) first made (now out) ⌝ }
-    ensures { λ r. ⌜ Written (blocks.block d (cut count) l) first made (now (out .entry)) (now (out .exit)) (blocks.block d (cut count) l (first + made) .1) r ⌝ }
-    ensures { λ _. ⌜ Stored (now (cells .exit)) (entryAt (blocks.block d (cut count) l (first + made) .1)) (diagrams.width d l) (diagrams.width d (l + count)) ⌝ }
+    ensures { λ r. ⌜ Grown (blocks.block d (cut count) l) first made (now (out .entry)) (now (out .exit)) r ⌝ }
+    ensures { λ _. ⌜ Stored (now (cells .exit)) (entryAt (blocks.block d (cut count) l (first + made) .1))
+        (diagrams.width d l) (diagrams.width d (l + count)) ⌝ }
 {
     if count <= 1 {
         level(d, l, cells);

@@ -15,9 +15,9 @@ use Rattle.diagram.specs.declared.sound.Range.the-variants.{Within, Outs
 use Rattle.diagram.specs.declared.sound.Twins.the-variants.{Absent, Present}
 use Rattle.diagram.specs.declared.sound.Numbering.the-variants.{InTurn, OutOfTurn}
 use Rattle.diagram.specs.declared.sound.Branching.the-variants.{Throughout, Missing}
-use Rattle.diagram.specs.Bytes.{isBelow, isInTurn, isUnlike, isFork}
+use Rattle.diagram.specs.Inner.Bytes.{isBelow, isInTurn, isUnlike, isFork}
 use Rattle.diagram.specs.Diagram.{width, edgeAt, root}
-use Rattle.diagram.specs.Lent.{Fit, HasLevels, HasOutputs}
+use Rattle.diagram.specs.Inner.Lent.{Fit, HasLevels, HasOutputs}
 use Rattle.diagram.specs.Questions.{Sized, inRange, distinct, mention, mentions, inTurn, numbered, branching, rangeOf, twinsOf, numberingOf, branchingOf}
 
 all-agree : (n : ℕ) (p q : ℕ → Bool) → ((i : ℕ) → i < n → p i ≡ q i) → all n p ≡ all n q

@@ -1,4 +1,3 @@
-pub mod Bytes
 pub mod Diagram
 pub mod Questions
-pub mod Lent
+pub mod Inner

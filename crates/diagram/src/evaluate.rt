@@ -4,7 +4,7 @@ ghost use Prim.Native.Nat.{_≤_};
 ghost use lib.ListN.{length};
 ghost use Rattle.diagram.specs.declared.Diagram.{Diagram};
 ghost use Rattle.diagram.specs.Diagram.{inputOf, wordAt, path};
-ghost use Rattle.diagram.specs.Lent.{HasOutputs};
+ghost use Rattle.diagram.specs.Inner.Lent.{HasOutputs};
 
 // The node of level n that a node of level 0 leads to at an input.
 fn lead(edges: &[u8], n: usize, input: u32, node: u8) -> u8
@@ -23,7 +23,8 @@ fn lead(edges: &[u8], n: usize, input: u32, node: u8) -> u8
 // The word of the outputs at an input, output j with the weight 2^j.
 pub fn word<'a>(n: usize, edges: &'a [u8], m: usize, roots: &'a [u8], input: u32) -> u32
     requires { ⌜ (n ≤ 12) × (m ≤ 8) × (m ≤ length (now roots)) ⌝ }
-    ensures { λ r. ⌜ ((d : Diagram) → d .contacts ≡ n → d .edges ≡ now (edges .entry) → HasOutputs d m (now (roots .entry)) → r ≡ wordAt d (inputOf input) m) ⌝ }
+    ensures { λ r. ⌜ ((d : Diagram) → d .contacts ≡ n → d .edges ≡ now (edges .entry) →
+        HasOutputs d m (now (roots .entry)) → r ≡ wordAt d (inputOf input) m) ⌝ }
 {
     let mut word: u32 = 0;
     for j in 0..m {

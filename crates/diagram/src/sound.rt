@@ -5,10 +5,9 @@ ghost use Prim.Native.Nat.{_+_, _*_, _≤_, _<_};
 ghost use lib.Dec.{ltb};
 ghost use lib.ListN.{length, getD};
 ghost use Rattle.fields.specs.Bounded.{all, any};
-ghost use Rattle.diagram.specs.declared.Diagram.{Diagram};
-ghost use Rattle.diagram.specs.Bytes.{isBelow, isInTurn, isUnlike, isFork};
+ghost use Rattle.diagram.specs.Inner.Bytes.{isBelow, isInTurn, isUnlike, isFork};
 ghost use Rattle.diagram.specs.Questions.{rangeOf, twinsOf, numberingOf, branchingOf};
-ghost use Rattle.diagram.specs.Lent.{Fit, HasLevels, HasOutputs};
+ghost use Rattle.diagram.specs.Inner.Lent.{Fit, WithLevels, WithArrays};
 
 // Question 5's answer.
 pub enum Range {
@@ -64,7 +63,7 @@ pub fn ask_range<'a>(
     roots: &'a [u8],
 ) -> Range
     requires { ⌜ Fit n (now widths) (now edges) × (m ≤ length (now roots)) ⌝ }
-    ensures { λ r. ⌜ ((d : Diagram) → HasLevels d n (now (widths .entry)) (now (edges .entry)) → HasOutputs d m (now (roots .entry)) → r ≡ rangeOf d) ⌝ }
+    ensures { λ r. ⌜ WithArrays n (now (widths .entry)) (now (edges .entry)) m (now (roots .entry)) (λ d. r ≡ rangeOf d) ⌝ }
 {
     if !below(roots, 0, m, width(widths, n, 0)) {
         return Range::Outside;
@@ -110,7 +109,7 @@ fn all_unlike(edges: &[u8], from: usize, nodes: usize) -> bool
 // Question 6: does each pair of nodes of one level differ in an edge?
 pub fn ask_twins<'a>(n: usize, widths: &'a [usize], edges: &'a [u8]) -> Twins
     requires { ⌜ Fit n (now widths) (now edges) ⌝ }
-    ensures { λ r. ⌜ ((d : Diagram) → HasLevels d n (now (widths .entry)) (now (edges .entry)) → r ≡ twinsOf d) ⌝ }
+    ensures { λ r. ⌜ WithLevels n (now (widths .entry)) (now (edges .entry)) (λ d. r ≡ twinsOf d) ⌝ }
 {
     for l in 0..n {
         if !all_unlike(edges, l * 16, widths[l]) {
@@ -147,7 +146,7 @@ pub fn ask_numbering<'a>(
     roots: &'a [u8],
 ) -> Numbering
     requires { ⌜ Fit n (now widths) (now edges) × (m ≤ length (now roots)) ⌝ }
-    ensures { λ r. ⌜ ((d : Diagram) → HasLevels d n (now (widths .entry)) (now (edges .entry)) → HasOutputs d m (now (roots .entry)) → r ≡ numberingOf d) ⌝ }
+    ensures { λ r. ⌜ WithArrays n (now (widths .entry)) (now (edges .entry)) m (now (roots .entry)) (λ d. r ≡ numberingOf d) ⌝ }
 {
     if !in_turn(roots, 0, m, widths[0]) {
         return Numbering::OutOfTurn;
@@ -177,7 +176,7 @@ fn forks(edges: &[u8], from: usize, nodes: usize) -> bool
 // Question 8: has every level a node whose edges differ?
 pub fn ask_branching<'a>(n: usize, widths: &'a [usize], edges: &'a [u8]) -> Branching
     requires { ⌜ Fit n (now widths) (now edges) ⌝ }
-    ensures { λ r. ⌜ ((d : Diagram) → HasLevels d n (now (widths .entry)) (now (edges .entry)) → r ≡ branchingOf d) ⌝ }
+    ensures { λ r. ⌜ WithLevels n (now (widths .entry)) (now (edges .entry)) (λ d. r ≡ branchingOf d) ⌝ }
 {
     for l in 0..n {
         if !forks(edges, l * 16, widths[l]) {

@@ -28,10 +28,10 @@ use Rattle.rules.proofs.Pairs.{pair, pairs-length, pairs-at}
 use Rattle.rules.proofs.Shown.{board-on, board-off}
 use Rattle.rules.proofs.Values.{no-wrong-code}
 use Rattle.rules.proofs.Wired.{board-wired}
-use Rattle.faults.specs.Betrayal.{stuckAt, noCode, betrays, smallestInput, lowestIn}
+use Rattle.faults.specs.Betrayal.{stuckAt, noCode, betrays, smallestInput, lowestNoCode}
 use Rattle.faults.specs.Promises.{Shows, ShowsRight}
 use Rattle.faults.proofs.HeldLines.{one-way-run, held-shows}
-use Rattle.faults.proofs.Least.{First, least-first}
+use Rattle.fields.proofs.Least.{First, least-first}
 use Rattle.faults.proofs.NoUnseen.{no-unseen}
 
 -- A board's pair by its lines' values.
@@ -39,7 +39,7 @@ module _ (d : Diagram) (vs : List ℕ) (j : ℕ) (h : j < d .outputs) where
   pub shows-by : (a b : ℕ) → getD vs (pair d j .on) 0 ≡ a → getD vs (pair d j .off) 0 ≡ b → Shows (boardOf d) vs j a b
   shows-by a b p q = (board-on d vs j h ∙ p, board-off d vs j h ∙ q)
 
-  no-code-by : noCode (boardOf d) vs j ≡ eqb (getD vs (pair d j .on) 0) (getD vs (pair d j .off) 0)
+  no-code-by : noCode (boardOf d .pairs) vs j ≡ eqb (getD vs (pair d j .on) 0) (getD vs (pair d j .off) 0)
   unfolding noCode
   no-code-by = rw (pairs-at d j (record { on = 0; off = 0 }) h)
 
@@ -62,8 +62,8 @@ module _ (table : List ℕ) (yes! : Accepted table) (y b : ℕ) (low : 2 ≤ y) 
 
   -- Each pair is the right code, and then a code, or it is the held value twice, and then no code.
   pair-is : (a j : ℕ) → j < d .outputs →
-      (ShowsRight table (inputOf a) (values a) j × (noCode (boardOf d) (values a) j ≡ false))
-      ⊎ (Shows (boardOf d) (values a) j b b × (noCode (boardOf d) (values a) j ≡ true))
+      (ShowsRight table (inputOf a) (values a) j × (noCode (boardOf d .pairs) (values a) j ≡ false))
+      ⊎ (Shows (boardOf d) (values a) j b b × (noCode (boardOf d .pairs) (values a) j ≡ true))
   unfolding stuckAt
   pair-is a j h =
       let ranged = accepted table (yes! .1) .ranged in
@@ -74,7 +74,7 @@ module _ (table : List ℕ) (yes! : Accepted table) (y b : ℕ) (low : 2 ≤ y) 
       (λ (p, q). inr (shows-by d _ j h b b p q, no-code-by d _ j h ∙ eq-eqb _ _ (p ∙ sym q)))
       (no-wrong-code d ranged some x b _ bound (one-way-run (boardOf d) wired x b bound (hold ∷ []) (refl, tt)) j h)
 
-  right-where : (a j : ℕ) → j < d .outputs → noCode (boardOf d) (values a) j ≡ false → ShowsRight table (inputOf a) (values a) j
+  right-where : (a j : ℕ) → j < d .outputs → noCode (boardOf d .pairs) (values a) j ≡ false → ShowsRight table (inputOf a) (values a) j
   right-where a j h e =
       ⊎-elim (λ r. r .0) (λ (s, t). absurd (let z : _≡_ {A = ℕ} 0 1 = cc in omega arith)) (pair-is a j h)
 
@@ -95,7 +95,7 @@ module _ (table : List ℕ) (yes! : Accepted table) (y b : ℕ) (low : 2 ≤ y) 
   betrayed =
       let (a, below, j, h, shows) = seen in
       any-at _ (2 ^ d .contacts) a below
-      (any-at (noCode (boardOf d) (values a)) _ j (rw (pairs-length d) h)
+      (any-at (noCode (boardOf d .pairs) (values a)) _ j (rw (pairs-length d) h)
       (no-code-by d (values a) j h
       ∙ eq-eqb _ _ (sym (board-on d (values a) j h) ∙ shows .0 ∙ sym (sym (board-off d (values a) j h) ∙ shows .1))))
 
@@ -106,9 +106,9 @@ module _ (table : List ℕ) (yes! : Accepted table) (y b : ℕ) (low : 2 ≤ y) 
   unfolding boardOf
   first-input = least-first (betrays (boardOf d) hold) (2 ^ d .contacts) betrayed
 
-  first-output : First (noCode (boardOf d) (values input)) (length (boardOf d .pairs)) (lowestIn (boardOf d) (values input))
+  first-output : First (noCode (boardOf d .pairs) (values input)) (length (boardOf d .pairs)) (lowestNoCode (boardOf d .pairs) (values input))
   unfolding betrays
-  first-output = least-first (noCode (boardOf d) (values input)) (length (boardOf d .pairs)) (first-input .passes)
+  first-output = least-first (noCode (boardOf d .pairs) (values input)) (length (boardOf d .pairs)) (first-input .passes)
 
   -- A code input that does not betray the line shows the right codes.
   unseen-right : (a j : ℕ) → betrays (boardOf d) hold a ≡ false → j < d .outputs → ShowsRight table (inputOf a) (values a) j
@@ -116,17 +116,17 @@ module _ (table : List ℕ) (yes! : Accepted table) (y b : ℕ) (low : 2 ≤ y) 
   unseen-right a j e h =
       ⊎-elim (λ r. r .0)
       (λ (s, t).
-      let found = any-at (noCode (boardOf d) (values a)) (length (boardOf d .pairs)) j (rw (pairs-length d) h) t in
+      let found = any-at (noCode (boardOf d .pairs) (values a)) (length (boardOf d .pairs)) j (rw (pairs-length d) h) t in
       absurd (let z : _≡_ {A = ℕ} 0 1 = cc in omega arith))
       (pair-is a j h)
 
   pub smallest-at :
-      let output = lowestIn (boardOf d) (values input) in
+      let output = lowestNoCode (boardOf d .pairs) (values input) in
       (input < 2 ^ d .contacts) × (output < d .outputs) × Shows (boardOf d) (values input) output b b
       × ((a j : ℕ) → a < input → j < d .outputs → ShowsRight table (inputOf a) (values a) j)
       × ((j : ℕ) → j < output → ShowsRight table (inputOf input) (values input) j)
   smallest-at =
-      let inside : lowestIn (boardOf d) (values input) < d .outputs = omega (arith, pairs-length d, first-output .below) in (
+      let inside : lowestNoCode (boardOf d .pairs) (values input) < d .outputs = omega (arith, pairs-length d, first-output .below) in (
         first-input .below,
         inside,
         ⊎-elim (λ (r, t). absurd (let p = first-output .passes in let z : _≡_ {A = ℕ} 0 1 = cc in omega arith)) (λ s. s .0)
@@ -136,9 +136,9 @@ module _ (table : List ℕ) (yes! : Accepted table) (y b : ℕ) (low : 2 ≤ y) 
       )
 
   -- The pair's true line shows the held value.
-  pub true-at : getD (values input) (getD (boardOf d .pairs) (lowestIn (boardOf d) (values input)) (record { on = 0; off = 0 }) .on) 0 ≡ b
+  pub true-at : getD (values input) (getD (boardOf d .pairs) (lowestNoCode (boardOf d .pairs) (values input)) (record { on = 0; off = 0 }) .on) 0 ≡ b
   true-at =
-      let output = lowestIn (boardOf d) (values input) in
+      let output = lowestNoCode (boardOf d .pairs) (values input) in
       let (_, inside, shows, _, _) = smallest-at in
       ap (λ (p : Pair). getD (values input) (p .on) 0) (pairs-at d output (record { on = 0; off = 0 }) inside)
       ∙ sym (board-on d (values input) output inside) ∙ shows .0

@@ -8,12 +8,13 @@ use borrow.Author.Tests.{eq-eqb}
 use lib.ListN.{length}
 use Rattle.diagram.specs.Diagram.{Input}
 use Rattle.netlist.specs.declared.Hold.{Hold}
-use Rattle.netlist.specs.Netlist.{Netlist, lineCount, holdAt, holdsOf, listed}
+use Rattle.netlist.specs.Netlist.{Netlist, lineCount, holdAt, holdsOf}
+use Rattle.fields.specs.Bounded.{listed}
 use Rattle.simulation.specs.Run.{held}
 use Rattle.netlist.proofs.Lists.{length-holds}
 use Rattle.netlist.proofs.Tests.{Wired}
 use Rattle.simulation.proofs.Monotone.{AllHeld, held-by}
-use Rattle.rules.proofs.Models.{codeOf, OneWay, follows-weaken, follows-line}
+use Rattle.rules.proofs.Models.{codeOf, OneSided, follows-weaken, follows-line}
 use Rattle.rules.proofs.Held.{shown, code-follows}
 
 -- Every hold of a hold list's bytes has a property that each place gives it.
@@ -34,7 +35,7 @@ all-weaken P Q f (h ∷ hs) a = (f _ (a .0), all-weaken P Q f hs (a .1))
 
 module _ (net : Netlist) (wired : Wired net) (x : Input) (b : ℕ) (bound : b ≤ 1) where
   -- Holds all at b.
-  pub one-way-run : (holds : List Hold) → AllHeld (λ v. v ≡ b) holds → OneWay net x b (shown net (codeOf net x) holds)
+  pub one-way-run : (holds : List Hold) → AllHeld (λ v. v ≡ b) holds → OneSided net x b (shown net (codeOf net x) holds)
   one-way-run holds all =
       follows-weaken
       (λ y made e.

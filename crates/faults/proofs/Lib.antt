@@ -9,7 +9,6 @@ pub mod Lifts
 pub mod GatesShown
 pub mod RailsShown
 pub mod NoUnseen
-pub mod Least
 pub mod HeldLines
 pub mod Betrayed
 pub mod Promises

@@ -19,7 +19,7 @@ use Rattle.rules.specs.Board.{lineOf, wholeBlock, boardOf}
 use Rattle.rules.proofs.Valuations.{shows}
 use Rattle.rules.proofs.Cuts.{size-cut}
 use Rattle.rules.proofs.Pairs.{wholeEntry, pair}
-use Rattle.rules.proofs.Models.{OneWay, gates-down, rails-down, gates-up, rails-up}
+use Rattle.rules.proofs.Models.{OneSided, gates-down, rails-down, gates-up, rails-up}
 use Rattle.rules.proofs.Values.{board-down, board-up}
 use Rattle.faults.proofs.Routes.{nodeAt}
 use Rattle.faults.proofs.Shown.{Low, High, Spoils}
@@ -30,7 +30,7 @@ use Rattle.faults.proofs.RailsShown.{railOf, rail-shown}
 abbrev pub Betrayed : Diagram → ℕ → ℕ → Type 0
 Betrayed d y b =
     (x : Input) × (j : ℕ) × (j < d .outputs)
-    × ((ν : ℕ → ℕ) → OneWay (boardOf d) x b ν → ν y ≡ b → (ν (pair d j .on) ≡ b) × (ν (pair d j .off) ≡ b))
+    × ((ν : ℕ → ℕ) → OneSided (boardOf d) x b ν → ν y ≡ b → (ν (pair d j .on) ≡ b) × (ν (pair d j .off) ≡ b))
 
 shown-line : (ν : ℕ → ℕ) (e : Entry) → ν 0 ≡ 0 → ν 1 ≡ 1 → ν (lineOf e) ≡ shows ν e
 shown-line ν Never low high = low
@@ -50,7 +50,7 @@ module _ (d : Diagram) (some : 1 ≤ d .contacts) (reduced : Reduced d) where
         end : nodeAt d x j (0 + size (cut (d .contacts))) ≡ valueAt d x j
         end = rw (size-cut (d .contacts) some, zero-add (d .contacts))
 
-        go : (ν : ℕ → ℕ) → OneWay (boardOf d) x 0 ν → ν y ≡ 0 → (ν (pair d j .on) ≡ 0) × (ν (pair d j .off) ≡ 0)
+        go : (ν : ℕ → ℕ) → OneSided (boardOf d) x 0 ν → ν y ≡ 0 → (ν (pair d j .on) ≡ 0) × (ν (pair d j .off) ≡ 0)
         go ν s o = (dark 1 (leads .0), dark 0 (leads .1))
           where
             leads : (ν (pair d j .on) ≡ 1 → valueAt d x j ≡ 1) × (ν (pair d j .off) ≡ 1 → valueAt d x j ≡ 0)
@@ -71,7 +71,7 @@ module _ (d : Diagram) (some : 1 ≤ d .contacts) (reduced : Reduced d) where
         bit-v : v < 2
         bit-v = rw (size-cut (d .contacts) some, zero-add (d .contacts), width-last d) at hv
 
-        go : (ν : ℕ → ℕ) → OneWay (boardOf d) x 1 ν → ν y ≡ 1 → (ν (pair d j .on) ≡ 1) × (ν (pair d j .off) ≡ 1)
+        go : (ν : ℕ → ℕ) → OneSided (boardOf d) x 1 ν → ν y ≡ 1 → (ν (pair d j .on) ≡ 1) × (ν (pair d j .off) ≡ 1)
         go ν s o = (lit 1 (omega arith) (leads .0), lit 0 (omega arith) (leads .1))
           where
             leads : (valueAt d x j ≡ 1 → ν (pair d j .on) ≡ 1) × (valueAt d x j ≡ 0 → ν (pair d j .off) ≡ 1)

@@ -9,7 +9,8 @@ use Rattle.diagram.specs.Diagram.{Input, valueAt}
 use Rattle.netlist.specs.Netlist.{Netlist, holdAt, holdsOf, lineCount, fileOf}
 use Rattle.simulation.specs.Run.{valuesOf, shownBy}
 use Rattle.netlist.specs.Questions.{areOrdered}
-use Rattle.simulation.specs.Service.{over, runRefusal, runOf}
+use Rattle.simulation.specs.Service.{runRefusal, runOf}
+use Rattle.files.specs.Room.{over}
 use Rattle.rules.specs.Code.{codeRails}
 use Rattle.table.specs.Promises.{Accepted}
 use Rattle.table.specs.Table.{diagramIn}

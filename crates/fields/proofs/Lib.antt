@@ -2,5 +2,9 @@ pub mod Steps
 pub mod Walks
 pub mod Encoding
 pub mod Bounded
+pub mod Least
+pub mod Listed
+pub mod Refusals
+pub mod Places
 pub mod Small
 pub mod Parts

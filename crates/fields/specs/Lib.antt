@@ -1,4 +1,4 @@
 pub mod Fields
-pub mod Walk
 pub mod Bounded
 pub mod Refusals
+pub mod Inner

@@ -1,6 +1,7 @@
 // Files as rows of fields: one tag byte, two length bytes (high byte first), the value.
 ghost use mathlib.Core.Path.{_≡_};
-ghost use Rattle.fields.specs.Fields.{stepAt, valueOf, fieldsFrom, fieldsOf, numberOf};
+ghost use Rattle.fields.specs.Fields.{stepAt, valueOf, fieldsOf, numberOf};
+ghost use Rattle.fields.specs.Inner.Walk.{itemsFrom};
 ghost use lib.ListN.{getD, drop};
 
 // One field of a file: its tag, and the place and the length of its value.
@@ -68,7 +69,7 @@ impl Cursor {
 
     // The cursor past so many fields more, or where the whole fields end before that.
     pub fn skip(self, file: &[u8], count: usize) -> Self
-        ensures { λ r. ⌜ fieldsFrom (now (file .entry)) (r .at) .items ≡ drop count (fieldsFrom (now (file .entry)) (self .at) .items) ⌝ }
+        ensures { λ r. ⌜ itemsFrom (now (file .entry)) (r .at) ≡ drop count (itemsFrom (now (file .entry)) (self .at)) ⌝ }
     {
         let mut cursor = self;
         for _ in 0..count {

@@ -19,7 +19,7 @@ pub field-is : (i : Item) {tag : ℕ} {value : List ℕ} → i .tag ≡ tag → 
 field-is i t v = λ j. record { tag = t j; value = v j }
 
 -- Fields that begin with the count of contacts.
-pub record Counts (is : List Item) (n : ℕ) : Type 0 where
+pub record CountHead (is : List Item) (n : ℕ) : Type 0 where
   pub rest : List Item
   pub split : is ≡ field 1 (n ∷ []) ∷ rest
   pub low : 1 ≤ n
@@ -30,7 +30,7 @@ single [] e = absurd (omega arith)
 single (x ∷ []) e = refl
 single (x ∷ y ∷ v) e = absurd (omega arith)
 
-pub counted : (is : List Item) (n : ℕ) → contactsIn is ≡ Counted n → Counts is n
+pub counted : (is : List Item) (n : ℕ) → contactsIn is ≡ Counted n → CountHead is n
 unfolding contactsIn
 counted [] n e = absurd (let z : _≡_ {A = ℕ} 0 1 = cc in omega arith)
 counted (i ∷ is) n e = go (first && between 1 m 12) refl e
@@ -41,7 +41,7 @@ counted (i ∷ is) n e = go (first && between 1 m 12) refl e
     first : Bool
     first = eqb (i .tag) 1 && eqb (length (i .value)) 1
 
-    go : (b : Bool) → (first && between 1 m 12) ≡ b → cond b (Counted m) Uncounted ≡ Counted n → Counts (i ∷ is) n
+    go : (b : Bool) → (first && between 1 m 12) ≡ b → cond b (Counted m) Uncounted ≡ Counted n → CountHead (i ∷ is) n
     go true t e =
         let q : m ≡ n = cc in
         let both = and-eq-true-iff first (between 1 m 12) .0 t in

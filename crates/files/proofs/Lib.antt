@@ -1,3 +1,5 @@
 pub mod Counts
 pub mod Written
+pub mod Buffers
+pub mod WholeParts
 pub mod Heads

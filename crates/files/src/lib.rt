@@ -1,7 +1,15 @@
-// What tables and netlists share: their first field (question 2), and fields written one after another.
+// What tables and netlists share: their first field (question 2), fields of whole parts, fields written one after another, and
+// question 9.
 mod header;
+mod parts;
+mod room;
 mod write;
 
 pub use header::Contacts;
 pub use header::count_contacts;
+pub use parts::field_at;
+pub use parts::has_parts;
+pub use room::Room;
+pub use room::ask_room;
 pub use write::put_field;
+pub use write::put_number;

@@ -6,7 +6,7 @@ use mathlib.Core.Path.{_≡_}
 use mathlib.Core.List.{List}
 use lib.ListN.{length, length-append}
 use Rattle.rules.specs.Make.{Make, _>>=_, sequence}
-use Rattle.gates.specs.Written.{Written, RoomFor}
+use Rattle.gates.specs.Inner.Written.{Written, RoomFor}
 use Rattle.gates.proofs.Binding.{sequence-last}
 
 module _ {A B : Type 0} (m : Make A) (f : A → Make B) {first made : ℕ} {start : List ℕ} (room : RoomFor (m >>= f) first made start) where

@@ -12,7 +12,7 @@ use Rattle.files.proofs.Written.{sets-more}
 use Rattle.netlist.specs.Netlist.{gateBytes}
 use Rattle.netlist.proofs.Files.{length-gate-bytes}
 use Rattle.rules.specs.Make.{Make, return, _>>=_, gate, sequence}
-use Rattle.gates.specs.Written.{Written}
+use Rattle.gates.specs.Inner.Written.{Written}
 use Rattle.gates.proofs.Binding.{sequence-last}
 
 module _ {A : Type 0} where

@@ -8,7 +8,7 @@ use lib.Seq.{length-take-le}
 use Rattle.rules.specs.declared.Entry.the-variants.{Never, Line}
 use Rattle.rules.specs.Make.{return}
 use Rattle.rules.specs.Blocks.{cut, orTree, joined}
-use Rattle.gates.specs.Written.{Written, Room, RoomFor}
+use Rattle.gates.specs.Inner.Written.{Written, GateRoom, RoomFor}
 use Rattle.rules.proofs.Counts.{or-count}
 use Rattle.rules.proofs.Cuts.{size-cut}
 use Rattle.gates.proofs.Rooms.{room-first}
@@ -23,7 +23,7 @@ joined-tree [] count e some w = absurd (omega arith)
 joined-tree (x ∷ ls) count e some w = written-bind (λ y. return (Line y)) (rw (← e) at w) (written-return _)
 
 joined-room : (ls : List ℕ) (count : ℕ) {first made : ℕ} {out : List ℕ} → length ls ≡ count → 1 ≤ count →
-    RoomFor (joined ls) first made out → Room first made (count - 1) out
+    RoomFor (joined ls) first made out → GateRoom first made (count - 1) out
 unfolding joined
 joined-room [] count e some room = absurd (omega arith)
 joined-room (x ∷ ls) count {first} {made} e some room =
@@ -42,7 +42,7 @@ module _ (lines : List ℕ) (count : ℕ) {first made : ℕ} {start : List ℕ} 
         Written (joined (take count lines)) first made start after (Line y) total
     lines-tree w = joined-tree (take count lines) count (length-take-le count lines few) some w
 
-    pub lines-room : RoomFor (joined (take count lines)) first made start → Room first made (count - 1) start
+    pub lines-room : RoomFor (joined (take count lines)) first made start → GateRoom first made (count - 1) start
     lines-room room = joined-room (take count lines) count (length-take-le count lines few) some room
 
   pub lines-one : count ≡ 1 → 1 ≤ length lines → Written (joined (take count lines)) first made start start (Line (getD lines 0 0)) made

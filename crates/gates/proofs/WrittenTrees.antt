@@ -8,7 +8,7 @@ use lib.ListN.{getD, take, drop}
 use lib.Seq.{take-nil, take-take, drop-drop, getD-take, getD-drop}
 use Rattle.rules.specs.Make.{gate}
 use Rattle.rules.specs.Blocks.{cut, orTree}
-use Rattle.gates.specs.Written.{Written}
+use Rattle.gates.specs.Inner.Written.{Written}
 use Rattle.rules.proofs.Cuts.{size-cut}
 use Rattle.rules.proofs.Halves.{cut-single, cut-halves}
 use Rattle.gates.proofs.Writing.{written-return, written-bind}

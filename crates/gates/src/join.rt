@@ -5,7 +5,7 @@ ghost use Prim.Native.Nat.{_+_, _-_, _≤_};
 ghost use lib.ListN.{length, take, drop};
 ghost use Rattle.rules.specs.Blocks.{cut, orTree};
 ghost use Rattle.rules.specs.Blocks as blocks;
-ghost use Rattle.gates.specs.Written.{Written, Room, RoomFor};
+ghost use Rattle.gates.specs.Inner.Written.{Written, GateRoom, RoomFor};
 
 // What a step of the synthesis leaves: an entry, and the number of gates made so far.
 pub struct Joined {
@@ -58,8 +58,9 @@ pub fn or_tree(
     first: usize,
     made: usize,
 ) -> u16
-    requires { ⌜ (1 ≤ count) × (from + count ≤ 8) × Room first made (count - 1) (now out) ⌝ }
-    ensures { λ r. ⌜ Written (orTree (cut count) (take count (drop from (now (lines .entry))))) first made (now (out .entry)) (now (out .exit)) r (made + count - 1) ⌝ }
+    requires { ⌜ (1 ≤ count) × (from + count ≤ 8) × GateRoom first made (count - 1) (now out) ⌝ }
+    ensures { λ r. ⌜ Written (orTree (cut count) (take count (drop from (now (lines .entry)))))
+        first made (now (out .entry)) (now (out .exit)) r (made + count - 1) ⌝ }
 {
     if count <= 1 {
         return lines[from];
@@ -82,8 +83,10 @@ pub fn join_lines(
     first: usize,
     made: usize,
 ) -> Joined
-    requires { ⌜ (count ≤ 8) × (count ≤ length (now lines)) × RoomFor (blocks.joined (take count (now lines))) first made (now out) ⌝ }
-    ensures { λ r. ⌜ Written (blocks.joined (take count (now (lines .entry)))) first made (now (out .entry)) (now (out .exit)) (r .entry) (r .made) ⌝ }
+    requires { ⌜ (count ≤ 8) × (count ≤ length (now lines))
+        × RoomFor (blocks.joined (take count (now lines))) first made (now out) ⌝ }
+    ensures { λ r. ⌜ Written (blocks.joined (take count (now (lines .entry))))
+        first made (now (out .entry)) (now (out .exit)) (r .entry) (r .made) ⌝ }
 {
     if count == 0 {
         return Joined {

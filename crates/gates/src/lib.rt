@@ -2,7 +2,6 @@
 mod gate;
 mod join;
 
-pub use gate::put_number;
 pub use join::Joined;
 pub use join::join_lines;
 pub use join::term;

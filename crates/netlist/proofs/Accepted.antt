@@ -1,75 +1,52 @@
 -- What a yes to questions 11 and 12 says of a netlist file.
-use borrow.Author.Tests.{leb-true, eqb-true}
 use native.Mathlib.Omega.{arith}
-use Prim.Native.Nat.{ℕ, _+_, _/_, _%_, _≤_}
+use Prim.Native.Nat.{ℕ, _+_, _/_, _≤_}
 use mathlib.Core.Path.{_≡_, refl, sym, ap, _∙_}
 use mathlib.Core.Bool.{Bool, true, false, _&&_, cond}
 use mathlib.Core.List.{List, [], _∷_}
-use lib.Dec.{leb, eqb}
-use lib.ListN.{length, getD, drop}
+use lib.Dec.{eqb}
+use lib.ListN.{length, drop}
 use Rattle.fields.specs.declared.Framing.{Framing}
 use Rattle.fields.specs.declared.Framing.the-variants.{Whole, Broken}
 use Rattle.fields.specs.Fields.{Item, Fields, fieldsOf, valueIn}
-use Rattle.fields.specs.Refusals.{between, framingNumber, firstNo}
+use Rattle.fields.specs.Refusals.{framingNumber, firstNo}
 use Rattle.fields.proofs.Bounded.{and-left, and-right}
 use Rattle.files.specs.declared.header.Contacts.{Contacts}
 use Rattle.files.specs.declared.header.Contacts.the-variants.{Counted, Uncounted}
-use Rattle.files.specs.Header.{contactsIn, contactsNumber}
-use Rattle.files.proofs.Heads.{field, field-is, Counts, counted}
+use Rattle.files.specs.Header.{contactsIn, contactsNumber, contactsOf, hasParts}
+use Rattle.files.proofs.WholeParts.{HasParts, has-parts}
+use Rattle.files.proofs.Heads.{field, CountHead, counted}
 use Rattle.netlist.specs.declared.form.Form.{Form}
 use Rattle.netlist.specs.declared.form.Form.the-variants.{Formed, Unformed}
 use Rattle.netlist.specs.declared.wiring.Wiring.the-variants.{Sound, Unsound}
 use Rattle.netlist.specs.Netlist.{gateLine}
-use Rattle.netlist.specs.Questions.{hasParts, areParts, formOf, formNumber, areGates, arePairs, isSound, wiringNumber, netlistOf, netlistRefusal}
+use Rattle.netlist.specs.Questions.{areParts, formOf, formNumber, areGates, arePairs, isSound, wiringNumber, netlistOf, netlistRefusal}
 use Rattle.netlist.proofs.Lists.{length-gates, getD-gates, length-pairs, getD-pairs}
 use Rattle.netlist.proofs.Tests.{gates-at, pairs-at, Bounds, Wired, PairsWired}
-
--- So many whole parts of a size.
-pub record Parts (size low high : ℕ) (v : List ℕ) : Type 0 where
-  pub whole : length v % size ≡ 0
-  pub least : low ≤ length v / size
-  pub most : length v / size ≤ high
-
-has-parts : (tag size low high : ℕ) (i : Item) → hasParts tag size low high i ≡ true →
-    (i ≡ field tag (i .value)) × Parts size low high (i .value)
-has-parts tag size low high i e =
-    let n = length (i .value) / size in
-    let a = eqb (i .tag) tag in
-    let b = eqb (length (i .value) % size) 0 in
-    let c = between low n high in
-    let f = and-left (a && b) c e in
-    let s = and-right (a && b) c e in (
-      field-is i (eqb-true _ _ (and-left a b f)) refl,
-      record {
-        whole = eqb-true _ _ (and-right a b f);
-        least = leb-true _ _ (and-left (leb low n) (leb n high) s);
-        most = leb-true _ _ (and-right (leb low n) (leb n high) s);
-      },
-    )
 
 -- What a yes to question 11 says: n contacts, and whole gates and outputs within their bounds.
 pub record WellFormed (fs : Fields) (n : ℕ) : Type 0 where
   pub whole : fs .framing ≡ Whole
-  pub contacts : n ≡ getD (valueIn (fs .items) 0) 0 0
+  pub contacts : n ≡ contactsOf (fs .items)
   pub items : fs .items ≡ field 1 (n ∷ []) ∷ field 4 (valueIn (fs .items) 1) ∷ field 5 (valueIn (fs .items) 2) ∷ []
   pub least : 1 ≤ n
   pub most : n ≤ 12
-  pub gates : Parts 5 0 10560 (valueIn (fs .items) 1)
-  pub pairs : Parts 4 1 8 (valueIn (fs .items) 2)
+  pub gates : HasParts 5 0 10560 (valueIn (fs .items) 1)
+  pub pairs : HasParts 4 1 8 (valueIn (fs .items) 2)
 
 whole : (f : Framing) → eqb (framingNumber f) 0 ≡ true → f ≡ Whole
 whole Whole e = refl
 whole Broken e = absurd (let z : _≡_ {A = ℕ} 0 1 = cc in omega arith)
 
-counts : (is : List Item) → eqb (contactsNumber (contactsIn is)) 0 ≡ true → (n : ℕ) × Counts is n
+counts : (is : List Item) → eqb (contactsNumber (contactsIn is)) 0 ≡ true → (n : ℕ) × CountHead is n
 counts is e = go (contactsIn is) refl e
   where
-    go : (c : Contacts) → contactsIn is ≡ c → eqb (contactsNumber c) 0 ≡ true → (n : ℕ) × Counts is n
+    go : (c : Contacts) → contactsIn is ≡ c → eqb (contactsNumber c) 0 ≡ true → (n : ℕ) × CountHead is n
     go (Counted n) c e = (n, counted is n c)
     go Uncounted c e = absurd (let z : _≡_ {A = ℕ} 0 1 = cc in omega arith)
 
 parts : (is : List Item) → areParts (drop 1 is) ≡ true →
-    (drop 1 is ≡ field 4 (valueIn is 1) ∷ field 5 (valueIn is 2) ∷ []) × Parts 5 0 10560 (valueIn is 1) × Parts 4 1 8 (valueIn is 2)
+    (drop 1 is ≡ field 4 (valueIn is 1) ∷ field 5 (valueIn is 2) ∷ []) × HasParts 5 0 10560 (valueIn is 1) × HasParts 4 1 8 (valueIn is 2)
 unfolding areParts
 parts [] e = absurd (let z : _≡_ {A = ℕ} 0 1 = cc in omega arith)
 parts (i ∷ []) e = absurd (let z : _≡_ {A = ℕ} 0 1 = cc in omega arith)
@@ -85,7 +62,7 @@ unfolding formOf
 well-formed fs n e = go (a && b && c) refl e
   where
     m : ℕ
-    m = getD (valueIn (fs .items) 0) 0 0
+    m = contactsOf (fs .items)
 
     a : Bool
     a = eqb (framingNumber (fs .framing)) 0
@@ -101,7 +78,7 @@ well-formed fs n e = go (a && b && c) refl e
         let l = and-left (a && b) c t in
         let (k, h) = counts (fs .items) (and-right a b l) in
         let same : n ≡ m = cc in
-        let is-k : n ≡ k = same ∙ ap (λ (is : List Item). getD (valueIn is 0) 0 0) (h .split) in
+        let is-k : n ≡ k = same ∙ ap (λ (is : List Item). contactsOf is) (h .split) in
         let p = parts (fs .items) (and-right (a && b) c t) in
         record {
           whole = whole (fs .framing) (and-left a b l);
@@ -115,7 +92,7 @@ well-formed fs n e = go (a && b && c) refl e
     go false t e = absurd (let z : _≡_ {A = ℕ} 0 1 = cc in omega arith)
 
 -- What a yes to questions 11 and 12 says: the form, the gates' and the outputs' lines.
-pub record Accepted (file : List ℕ) : Type 0 where
+pub record AcceptedNetlist (file : List ℕ) : Type 0 where
   pub formed : formOf (fieldsOf file) ≡ Formed (netlistOf (fieldsOf file .items) .contacts)
   pub form : WellFormed (fieldsOf file) (netlistOf (fieldsOf file .items) .contacts)
   pub sound : isSound (netlistOf (fieldsOf file .items) .contacts) (valueIn (fieldsOf file .items) 1) (valueIn (fieldsOf file .items) 2) ≡ true
@@ -123,13 +100,13 @@ pub record Accepted (file : List ℕ) : Type 0 where
   pub wired : Wired (netlistOf (fieldsOf file .items))
   pub shown : PairsWired (netlistOf (fieldsOf file .items))
 
-passed : (file : List ℕ) → formOf (fieldsOf file) ≡ Formed (getD (valueIn (fieldsOf file .items) 0) 0 0) →
-    isSound (getD (valueIn (fieldsOf file .items) 0) 0 0) (valueIn (fieldsOf file .items) 1) (valueIn (fieldsOf file .items) 2) ≡ true →
-    Accepted file
+passed : (file : List ℕ) → formOf (fieldsOf file) ≡ Formed (contactsOf (fieldsOf file .items)) →
+    isSound (contactsOf (fieldsOf file .items)) (valueIn (fieldsOf file .items) 1) (valueIn (fieldsOf file .items) 2) ≡ true →
+    AcceptedNetlist file
 unfolding netlistOf isSound
 passed file f s =
     let is = fieldsOf file .items in
-    let n = getD (valueIn is 0) 0 0 in
+    let n = contactsOf is in
     let gs = valueIn is 1 in
     let ps = valueIn is 2 in
     let w = well-formed (fieldsOf file) n f in
@@ -152,15 +129,15 @@ passed file f s =
       shown = λ j d h. rw (getD-pairs ps j d (omega arith), g) (pairs-at (gateLine n + length gs / 5) ps (and-right a b s) j (omega arith));
     }
 
-pub accepted : (file : List ℕ) → netlistRefusal file ≡ 0 → Accepted file
+pub accepted : (file : List ℕ) → netlistRefusal file ≡ 0 → AcceptedNetlist file
 unfolding netlistRefusal firstNo
-accepted file = go (formOf (fieldsOf file)) (isSound (getD (valueIn is 0) 0 0) (valueIn is 1) (valueIn is 2)) refl refl
+accepted file = go (formOf (fieldsOf file)) (isSound (contactsOf is) (valueIn is 1) (valueIn is 2)) refl refl
   where
     is : List Item
     is = fieldsOf file .items
 
-    go : (f : Form) (b : Bool) → formOf (fieldsOf file) ≡ f → isSound (getD (valueIn is 0) 0 0) (valueIn is 1) (valueIn is 2) ≡ b →
-        firstNo (formNumber f ∷ wiringNumber (cond b Sound Unsound) ∷ []) ≡ 0 → Accepted file
+    go : (f : Form) (b : Bool) → formOf (fieldsOf file) ≡ f → isSound (contactsOf is) (valueIn is 1) (valueIn is 2) ≡ b →
+        firstNo (formNumber f ∷ wiringNumber (cond b Sound Unsound) ∷ []) ≡ 0 → AcceptedNetlist file
     go (Formed n) true f s e = passed file (f ∙ ap Formed (well-formed (fieldsOf file) n f .contacts)) s
     go (Formed n) false f s e = absurd (omega arith)
     go Unformed b f s e = absurd (omega arith)

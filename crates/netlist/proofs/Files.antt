@@ -1,8 +1,8 @@
 -- The file of a netlist reads back as that netlist, and a sound netlist's file passes questions 11 and 12.
-use borrow.Author.Tests.{eq-eqb, le-leb}
+use borrow.Author.Tests.{le-leb}
 use native.Mathlib.Nat.{div-add-mod'}
 use native.Mathlib.Omega.{arith}
-use Prim.Native.Nat.{ℕ, _+_, _*_, _/_, _%_, _≤_, _<_}
+use Prim.Native.Nat.{ℕ, _+_, _*_, _/_, _<_}
 use mathlib.Core.Path.{_≡_, refl, sym, ap, ap₂, _∙_}
 use mathlib.Core.Bool.{true, _&&_}
 use mathlib.Core.List.{List, [], _∷_, flatMap}
@@ -15,11 +15,12 @@ use Rattle.fields.proofs.Bounded.{all-of}
 use Rattle.fields.proofs.Encoding.{of-encoded}
 use Rattle.fields.proofs.Parts.{length-parts, part-at}
 use Rattle.files.specs.Header.{contactsIn}
+use Rattle.files.proofs.WholeParts.{whole-parts}
 use Rattle.netlist.specs.declared.Gate.{Gate}
 use Rattle.netlist.specs.declared.Pair.{Pair}
 use Rattle.netlist.specs.declared.form.Form.the-variants.{Formed}
-use Rattle.netlist.specs.Netlist.{Netlist, gateLine, gateAt, pairAt, gatesOf, pairsOf, gateBytes, pairBytes, fileOf}
-use Rattle.netlist.specs.Questions.{isGate, isPair, hasParts, areParts, formOf, isSound, netlistOf, netlistRefusal}
+use Rattle.netlist.specs.Netlist.{Netlist, gateLine, gateAt, pairAt, gatesOf, pairsOf, gateBytes, pairBytes, netWith, fileWith, fileOf}
+use Rattle.netlist.specs.Questions.{isGate, isPair, areParts, formOf, isSound, netlistOf, netlistRefusal}
 use Rattle.netlist.proofs.Forms.{formed}
 use Rattle.netlist.proofs.Lists.{length-gates, getD-gates, length-pairs, getD-pairs}
 use Rattle.netlist.proofs.Tests.{on-gate, in-pair, Bounds, Wired, PairsWired}
@@ -81,9 +82,6 @@ pairs-back ps =
     let l : length (pairsOf v) ≡ length ps = omega (arith, length-pairs v) in
     ext-getD no-pair (pairsOf v) ps l (λ j h. getD-pairs v j no-pair (omega arith) ∙ pair-back ps j)
 
-abbrev with-parts : ℕ → List Gate → List Pair → Netlist
-with-parts n gs ps = record { contacts = n; gates = gs; pairs = ps }
-
 module _ (net : Netlist) where
   abbrev pub itemsOf : List Item
   itemsOf =
@@ -93,17 +91,17 @@ module _ (net : Netlist) where
       ∷ []
 
   pub file-fields : fieldsOf (fileOf net) ≡ record { items = itemsOf; framing = Whole }
-  unfolding fileOf
+  unfolding fileOf fileWith
   file-fields = of-encoded itemsOf
 
   pub file-length : length (fileOf net) ≡ 10 + 5 * length (net .gates) + 4 * length (net .pairs)
-  unfolding fileOf encoded
+  unfolding fileOf fileWith encoded
   file-length =
       simp length-append (omega (arith, length-gate-bytes (net .gates), length-pair-bytes (net .pairs)))
 
   items-back : netlistOf itemsOf ≡ net
   unfolding netlistOf
-  items-back = ap₂ (with-parts (net .contacts)) (gates-back (net .gates)) (pairs-back (net .pairs))
+  items-back = ap₂ (netWith (net .contacts)) (gates-back (net .gates)) (pairs-back (net .pairs))
 
   pub reads-back : netlistOf (fieldsOf (fileOf net) .items) ≡ net
   reads-back = ap (λ (fs : Fields). netlistOf (fs .items)) file-fields ∙ items-back
@@ -111,10 +109,6 @@ module _ (net : Netlist) where
 -- Different netlists have different files.
 pub file-determines : (a b : Netlist) → fileOf a ≡ fileOf b → a ≡ b
 file-determines a b e = sym (reads-back a) ∙ ap (λ (f : List ℕ). netlistOf (fieldsOf f .items)) e ∙ reads-back b
-
-whole-parts : (tag size low high : ℕ) (v : List ℕ) → length v % size ≡ 0 → low ≤ length v / size → length v / size ≤ high →
-    hasParts tag size low high (record { tag = tag; value = v }) ≡ true
-whole-parts tag size low high v w l m = simp (eq-eqb tag tag refl, eq-eqb _ _ w, le-leb _ _ l, le-leb _ _ m)
 
 module _ (net : Netlist) (b : Bounds net) where
   items-formed : Formed (net .contacts) ≡ formOf (record { items = itemsOf net; framing = Whole })

@@ -3,18 +3,18 @@ use Prim.Native.Nat.{ℕ}
 use mathlib.Core.Path.{_≡_, sym, ap, _∙_}
 use mathlib.Core.Bool.{Bool, true, false, _&&_, and-false}
 use mathlib.Core.List.{List, [], _∷_}
-use lib.ListN.{getD, drop}
+use lib.ListN.{drop}
 use Rattle.fields.specs.declared.Framing.the-variants.{Whole, Broken}
 use Rattle.fields.specs.declared.Field.{Field}
 use Rattle.fields.specs.declared.Cursor.{Cursor}
 use Rattle.fields.specs.declared.Step.the-variants.{Next}
-use Rattle.fields.specs.Fields.{Item, Fields, itemOf, stepAt, fieldsFrom, fieldsOf, valueIn}
+use Rattle.fields.specs.Fields.{Item, Fields, itemOf, stepAt, fieldsFrom, fieldsOf}
 use Rattle.fields.proofs.Steps.{from-start, items-next}
 use Rattle.files.specs.declared.header.Contacts.the-variants.{Counted, Uncounted}
-use Rattle.files.specs.Header.{contactsIn}
+use Rattle.files.specs.Header.{contactsOf, contactsIn, hasParts}
 use Rattle.files.proofs.Heads.{counted}
 use Rattle.netlist.specs.declared.form.Form.the-variants.{Formed, Unformed}
-use Rattle.netlist.specs.Questions.{hasParts, areParts, formOf}
+use Rattle.netlist.specs.Questions.{areParts, formOf}
 
 module _ (fs : Fields) where
   pub broken : fs .framing ≡ Broken → Unformed ≡ formOf fs
@@ -33,7 +33,7 @@ module _ (fs : Fields) where
       Formed n ≡ formOf fs
   unfolding formOf
   formed {n} w e p =
-      ap Formed (sym (ap (λ (is : List Item). getD (valueIn is 0) 0 0) (counted (fs .items) n e .split))) ∙ simp (w, e, p)
+      ap Formed (sym (ap (λ (is : List Item). contactsOf is) (counted (fs .items) n e .split))) ∙ simp (w, e, p)
 
 -- The fields past the first, from the cursor that has skipped it on.
 module _ (file : List ℕ) (at from : ℕ) (start : at ≡ 0)

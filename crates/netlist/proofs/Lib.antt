@@ -4,4 +4,6 @@ pub mod Forms
 pub mod Holds
 pub mod Accepted
 pub mod Files
+pub mod Written
+pub mod Opened
 pub mod Promises

@@ -11,7 +11,8 @@ use Rattle.fields.proofs.Small.{value-bytes}
 use Rattle.files.proofs.Heads.{field}
 use Rattle.netlist.specs.declared.Gate.{Gate}
 use Rattle.netlist.specs.declared.Pair.{Pair}
-use Rattle.netlist.specs.Netlist.{numberAt, gateAt, pairAt, gatesOf, pairsOf, gateBytes, pairBytes, fileOf}
+use Rattle.files.specs.Header.{contactsOf}
+use Rattle.netlist.specs.Netlist.{numberAt, gateAt, pairAt, gatesOf, pairsOf, gateBytes, pairBytes, fileWith, fileOf}
 use Rattle.netlist.specs.Questions.{netlistOf}
 use Rattle.netlist.specs.Promises.{NetlistReadsBack, NetlistWritesBack}
 use Rattle.netlist.proofs.Accepted.{accepted}
@@ -64,12 +65,12 @@ module _ (v : List ℕ) (b : Bytes v) where
       ∙ pair-read (i / 4) (i % 4) i (omega arith) (omega arith))
 
 pub netlist-writes-back : NetlistWritesBack
-unfolding fileOf netlistOf
+unfolding fileOf fileWith netlistOf
 netlist-writes-back file b z =
     let is = fieldsOf file .items in
     let f = accepted file z .form in
     let byte = value-bytes file b (f .whole) in
     let gates = gates-written (valueIn is 1) (byte 1) (f .gates .whole) in
     let pairs = pairs-written (valueIn is 2) (byte 2) (f .pairs .whole) in
-    let items = ap₂ (λ (v w : List ℕ). field 1 (getD (valueIn is 0) 0 0 ∷ []) ∷ field 4 v ∷ field 5 w ∷ []) gates pairs ∙ sym (f .items) in
+    let items = ap₂ (λ (v w : List ℕ). field 1 (contactsOf is ∷ []) ∷ field 4 v ∷ field 5 w ∷ []) gates pairs ∙ sym (f .items) in
     ap encoded items ∙ encoded-of file b (f .whole)

@@ -1,3 +1,4 @@
 pub mod Netlist
 pub mod Questions
+pub mod Inner
 pub mod Promises

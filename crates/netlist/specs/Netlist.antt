@@ -1,7 +1,8 @@
 -- Netlists, and their files: five bytes a gate, four bytes an output, three bytes a hold.
-use Prim.Native.Nat.{ℕ, zero, suc, _+_, _*_, _/_, _%_}
+use Prim.Native.Nat.{ℕ, _+_, _*_, _/_, _%_}
 use mathlib.Core.List.{List, [], _∷_, flatMap}
 use lib.ListN.{length, getD}
+use Rattle.fields.specs.Bounded.{listed}
 use Rattle.fields.specs.Fields.{numberOf, encoded}
 use Rattle.netlist.specs.declared.Gate.{Gate}
 use Rattle.netlist.specs.declared.Pair.{Pair}
@@ -35,11 +36,6 @@ pairAt v j = record { on = numberAt v (4 * j); off = numberAt v (4 * j + 2) }
 abbrev pub holdAt : List ℕ → ℕ → Hold
 holdAt v i = record { line = numberAt v (3 * i); value = getD v (3 * i + 2) 0 }
 
--- What f gives at so many places from i on.
-unfoldable pub listed : {A : Type 0} → (ℕ → A) → ℕ → ℕ → List A
-listed f zero i = []
-listed f (suc count) i = f i ∷ listed f count (suc i)
-
 unfoldable pub gatesOf : List ℕ → List Gate
 gatesOf v = listed (gateAt v) (length v / 5) 0
 
@@ -49,17 +45,25 @@ pairsOf v = listed (pairAt v) (length v / 4) 0
 unfoldable pub holdsOf : List ℕ → List Hold
 holdsOf v = listed (holdAt v) (length v / 3) 0
 
--- The bytes of a gate and of an output, and the file of a netlist.
+-- A netlist from its parts, and from the bytes of its gates and outputs.
+abbrev pub netWith : ℕ → List Gate → List Pair → Netlist
+netWith n gates pairs = record { contacts = n; gates = gates; pairs = pairs }
+
+abbrev pub netOf : ℕ → List ℕ → List ℕ → Netlist
+netOf n gates pairs = netWith n (gatesOf gates) (pairsOf pairs)
+
+-- The bytes of a gate and of an output.
 abbrev pub gateBytes : Gate → List ℕ
 gateBytes g = g .kind ∷ g .left / 256 ∷ g .left % 256 ∷ g .right / 256 ∷ g .right % 256 ∷ []
 
 abbrev pub pairBytes : Pair → List ℕ
 pairBytes p = p .on / 256 ∷ p .on % 256 ∷ p .off / 256 ∷ p .off % 256 ∷ []
 
-unfoldable pub fileOf : Netlist → List ℕ
-fileOf net =
+-- The file of a netlist of n contacts whose gates and outputs have these bytes, and of a netlist.
+unfoldable pub fileWith : ℕ → List ℕ → List ℕ → List ℕ
+fileWith n gates pairs =
     encoded
-    (record { tag = 1; value = net .contacts ∷ [] }
-    ∷ record { tag = 4; value = flatMap gateBytes (net .gates) }
-    ∷ record { tag = 5; value = flatMap pairBytes (net .pairs) }
-    ∷ [])
+    (record { tag = 1; value = n ∷ [] } ∷ record { tag = 4; value = gates } ∷ record { tag = 5; value = pairs } ∷ [])
+
+unfoldable pub fileOf : Netlist → List ℕ
+fileOf net = fileWith (net .contacts) (flatMap gateBytes (net .gates)) (flatMap pairBytes (net .pairs))

@@ -1,4 +1,4 @@
--- Questions 11 to 14 and 9, about a netlist file and what it is run with.
+-- Questions 11 to 14, about a netlist file and what it is run with.
 use Prim.Native.Nat.{ℕ, zero, suc, _+_, _*_, _/_, _%_}
 use mathlib.Core.Bool.{Bool, false, _&&_, cond}
 use mathlib.Core.List.{List, [], _∷_}
@@ -6,8 +6,8 @@ use lib.Dec.{leb, ltb, eqb}
 use lib.ListN.{length, getD, drop}
 use Rattle.fields.specs.Bounded.{all}
 use Rattle.fields.specs.Fields.{Item, Fields, fieldsOf, valueIn}
-use Rattle.fields.specs.Refusals.{between, framingNumber, firstNo}
-use Rattle.files.specs.Header.{contactsIn, contactsNumber}
+use Rattle.fields.specs.Refusals.{framingNumber, firstNo}
+use Rattle.files.specs.Header.{contactsIn, contactsNumber, contactsOf, hasParts}
 use Rattle.netlist.specs.declared.Gate.{Gate}
 use Rattle.netlist.specs.declared.Pair.{Pair}
 use Rattle.netlist.specs.declared.Hold.{Hold}
@@ -19,14 +19,7 @@ use Rattle.netlist.specs.declared.drive.Rails.{Rails}
 use Rattle.netlist.specs.declared.drive.Rails.the-variants.{Driven, Undriven}
 use Rattle.netlist.specs.declared.drive.Holds.{Holds}
 use Rattle.netlist.specs.declared.drive.Holds.the-variants.{Ordered, Disordered}
-use Rattle.netlist.specs.declared.drive.Room.{Room}
-use Rattle.netlist.specs.declared.drive.Room.the-variants.{Enough, Short}
-use Rattle.netlist.specs.Netlist.{Netlist, gateAt, pairAt, holdAt, gateLine, gatesOf, pairsOf}
-
--- A field of a tag whose value is so many whole parts of a size.
-abbrev pub hasParts : ℕ → ℕ → ℕ → ℕ → Item → Bool
-hasParts tag size least most i =
-    eqb (i .tag) tag && eqb (length (i .value) % size) 0 && between least (length (i .value) / size) most
+use Rattle.netlist.specs.Netlist.{Netlist, gateAt, pairAt, holdAt, gateLine, netOf}
 
 unfoldable pub areParts : List Item → Bool
 areParts [] = false
@@ -40,7 +33,7 @@ unfoldable pub formOf : Fields → Form
 formOf fs =
     cond
     (eqb (framingNumber (fs .framing)) 0 && eqb (contactsNumber (contactsIn (fs .items))) 0 && areParts (drop 1 (fs .items)))
-    (Formed (getD (valueIn (fs .items) 0) 0 0))
+    (Formed (contactsOf (fs .items)))
     Unformed
 
 abbrev pub formNumber : Form → ℕ
@@ -108,18 +101,9 @@ abbrev pub holdsNumber : Holds → ℕ
 holdsNumber Ordered = 0
 holdsNumber Disordered = 14
 
--- 9. Is a lent buffer long enough? No: 9.
-abbrev pub roomOf : ℕ → ℕ → Room
-roomOf wanted lent = cond (leb wanted lent) Enough Short
-
-abbrev pub roomNumber : Room → ℕ
-roomNumber Enough = 0
-roomNumber Short = 9
-
 -- The netlist that the fields hold.
 unfoldable pub netlistOf : List Item → Netlist
-netlistOf is =
-    record { contacts = getD (valueIn is 0) 0 0; gates = gatesOf (valueIn is 1); pairs = pairsOf (valueIn is 2) }
+netlistOf is = netOf (contactsOf is) (valueIn is 1) (valueIn is 2)
 
 -- Questions 11 and 12 about a netlist file.
 unfoldable pub netlistRefusal : List ℕ → ℕ
@@ -127,5 +111,5 @@ netlistRefusal file =
     let is = fieldsOf file .items in
     firstNo
     (formNumber (formOf (fieldsOf file))
-    ∷ wiringNumber (wiringOf (getD (valueIn is 0) 0 0) (valueIn is 1) (valueIn is 2))
+    ∷ wiringNumber (wiringOf (contactsOf is) (valueIn is 1) (valueIn is 2))
     ∷ [])

@@ -1,8 +1,8 @@
-// Questions 13, 14 and 9, about what a netlist is run with.
+// Questions 13 and 14, about what a netlist is run with.
 use crate::form;
 ghost use mathlib.Core.Path.{_≡_};
 ghost use Prim.Native.Nat.{_≤_};
-ghost use Rattle.netlist.specs.Questions.{railsOf, orderOf, roomOf};
+ghost use Rattle.netlist.specs.Questions.{railsOf, orderOf};
 
 // Question 13's answer.
 pub enum Rails {
@@ -14,12 +14,6 @@ pub enum Rails {
 pub enum Holds {
     Ordered,
     Disordered,
-}
-
-// Question 9's answer.
-pub enum Room {
-    Enough,
-    Short,
 }
 
 // Question 13: are there 2n rail bytes, each 0 or 1?
@@ -61,15 +55,4 @@ pub fn ask_holds(lines: usize, holds: &[u8]) -> Holds
         last = hold.line;
     }
     Holds::Ordered
-}
-
-// Question 9: is a lent buffer long enough?
-pub fn ask_room(wanted: usize, lent: usize) -> Room
-    ensures { λ r. ⌜ r ≡ roomOf wanted lent ⌝ }
-{
-    if wanted <= lent {
-        Room::Enough
-    } else {
-        Room::Short
-    }
 }

@@ -3,40 +3,20 @@ use crate::Gate;
 use crate::Hold;
 use crate::Pair;
 use fields::Cursor;
-use fields::Field;
 use fields::Framing;
 use fields::Step;
 use files::Contacts;
 ghost use mathlib.Core.Path.{_≡_};
-ghost use Prim.Native.Nat.{_+_, _*_, _≤_, _<_};
+ghost use Prim.Native.Nat.{_+_, _*_, _≤_};
 ghost use lib.ListN.{length, drop};
-ghost use Rattle.fields.specs.Fields.{fieldsOf, itemOf};
+ghost use Rattle.fields.specs.Fields.{fieldsOf};
 ghost use Rattle.netlist.specs.Netlist.{gateAt, pairAt, holdAt, numberAt};
-ghost use Rattle.netlist.specs.Questions.{formOf, hasParts, areParts};
+ghost use Rattle.netlist.specs.Questions.{formOf, areParts};
 
 // Question 11's answer: the count of contacts.
 pub enum Form {
     Formed(usize),
     Unformed,
-}
-
-// Whether a field has a tag, and a value of whole parts of a size, so many at least and at most.
-fn has_parts(file: &[u8], field: Field, tag: u8, size: usize, least: usize, most: usize) -> bool
-    requires { ⌜ 0 < size ⌝ }
-    ensures { λ r. ⌜ r ≡ hasParts tag size least most (itemOf (now (file .entry)) field) ⌝ }
-{
-    let found = field.tag;
-    let len = fields::value(file, field).len();
-    if found != tag {
-        return false;
-    }
-    if len % size != 0 {
-        return false;
-    }
-    if len / size < least {
-        return false;
-    }
-    len / size <= most
 }
 
 // Whether just two fields follow the first: tag 4 of 0 to 10,560 whole gates, tag 5 of 1 to 8 whole outputs.
@@ -52,10 +32,10 @@ fn are_parts(file: &[u8]) -> bool
     if let Step::Next(_, _) = last.next(file) {
         return false;
     }
-    if !has_parts(file, gates, 4, 5, 0, 10560) {
+    if !files::has_parts(file, gates, 4, 5, 0, 10560) {
         return false;
     }
-    has_parts(file, pairs, 5, 4, 1, 8)
+    files::has_parts(file, pairs, 5, 4, 1, 8)
 }
 
 // Question 11: does the file have whole fields of tags 1, 4, 5 in that order and no more, tag 1 as in question 2, tag 4 of 0

@@ -1,23 +1,26 @@
-// Two-rail netlists of AND and OR gates: their files, and questions 11 to 14 and 9.
+// Two-rail netlists of AND and OR gates: their files, and questions 11 to 14.
 //
 // Lines 0 and 1 are the constants. The true rail of contact i is line 2 + 2 i, its false rail 3 + 2 i, and gate g is line
 // 2 + 2 n + g.
 mod drive;
+mod file;
 mod form;
+mod reading;
 mod wiring;
 
 pub use drive::Holds;
 pub use drive::Rails;
-pub use drive::Room;
 pub use drive::ask_holds;
 pub use drive::ask_rails;
-pub use drive::ask_room;
+pub use file::put_file;
 pub use form::Form;
 pub use form::ask_form;
 pub use form::gate_at;
 pub use form::hold_at;
 pub use form::number_at;
 pub use form::pair_at;
+pub use reading::Parts;
+pub use reading::read;
 pub use wiring::Wiring;
 pub use wiring::ask_wiring;
 

@@ -1,15 +1,12 @@
 -- The three demands hold.
-use Prim.Native.Nat.{ℕ, zero, suc, _^_}
+use Prim.Native.Nat.{ℕ, zero, suc}
 use native.Mathlib.Omega.{arith}
 use mathlib.Core.Path.{_≡_, refl}
-use mathlib.Core.Bool.{Bool, true, false, cond}
 use mathlib.Core.List.{List}
 use Rattle.diagram.specs.declared.Diagram.{Diagram}
-use lib.Dec.{ltb}
 use lib.ListN.{length}
 use Rattle.fields.specs.Fields.{fieldsOf}
-use Rattle.diagram.specs.Diagram.{inputOf, wordAt}
-use Rattle.table.specs.Table.{tableRefusal, tableOf, refusedReading, readingOr, readingOf}
+use Rattle.table.specs.Table.{diagramIn, tableRefusal, readRefusal, readingOr, readingOf}
 use Rattle.netlist.specs.declared.Hold.{Hold}
 use Rattle.netlist.specs.Netlist.{Netlist, holdAt}
 use Rattle.netlist.specs.Questions.{netlistOf}
@@ -17,10 +14,10 @@ use Rattle.simulation.specs.Service.{runRefusal, ranOr, runOf}
 use Rattle.rules.specs.Board.{tableBoard}
 use Rattle.synthesis.specs.Service.{checkedOr, checkedOf, buildRefusal, buildingOr, buildingOf}
 use Rattle.rules.proofs.Promises.{within-formulas, built-files-pass, right-code, different-netlists}
-use Rattle.probe.specs.declared.service.Way.the-variants.{BothLow}
 use Rattle.probe.specs.Service.{probeRefusal, probingOr, probingOf}
 use Rattle.faults.proofs.Promises.{no-wrong-lines, run-writes, no-unseen-line}
-use Rattle.probe.proofs.Promises.{smallest, probe-writes}
+use Rattle.pilgodur.proofs.Promises.{smallest, probe-writes}
+use Rattle.pilgodur.specs.Answers.{wayNumber, probeOf}
 use Rattle.pilgodur.specs.Demands.{Refusals, Demands}
 
 check-refused : (r : ℕ) (net : Netlist) (k : ℕ) → checkedOr r net .refusal ≡ suc k →
@@ -34,13 +31,7 @@ build-refused zero net buffer k e = absurd (omega arith)
 build-refused (suc r) net buffer k e = (refl, refl)
 
 read-refused : (r : ℕ) (d : Diagram) (a k : ℕ) → readingOr r d a .refusal ≡ suc k → readingOr r d a .word ≡ 0
-read-refused zero d a k e = go (ltb a (2 ^ d .contacts)) e
-  where
-    go : (b : Bool) →
-        cond b (record { refusal = 0; word = wordAt d (inputOf a) (d .outputs) }) (refusedReading 10) .refusal ≡ suc k →
-        cond b (record { refusal = 0; word = wordAt d (inputOf a) (d .outputs) }) (refusedReading 10) .word ≡ 0
-    go true e = absurd (omega arith)
-    go false e = refl
+read-refused zero d a k e = absurd (omega arith)
 read-refused (suc r) d a k e = refl
 
 run-refused : (r : ℕ) (net : Netlist) (rails holds lines pairs : List ℕ) (k : ℕ) → ranOr r net rails holds lines pairs .refusal ≡ suc k →
@@ -50,17 +41,17 @@ run-refused (suc r) net rails holds lines pairs k e = (refl, refl)
 
 probe-refused : (r : ℕ) (net : Netlist) (hold : Hold) (buffer : List ℕ) (k : ℕ) → probingOr r net hold buffer .answer .refusal ≡ suc k →
     let p = probingOr r net hold buffer in
-    (p .answer .input ≡ 0) × (p .answer .output ≡ 0) × (p .answer .way ≡ BothLow) × (p .buffer ≡ buffer)
+    (p .answer .input ≡ 0) × (p .answer .output ≡ 0) × (wayNumber (p .answer .way) ≡ 0) × (p .buffer ≡ buffer)
 probe-refused zero net hold buffer k e = absurd (omega arith)
 probe-refused (suc r) net hold buffer k e = (refl, refl, refl, refl)
 
 refusals : Refusals
-unfolding checkedOf buildingOf readingOf runOf probingOf
+unfolding checkedOf buildingOf readingOf runOf probingOf probeOf
 refusals =
     record {
       check = λ table. check-refused (tableRefusal table) (tableBoard table);
       build = λ table buffer. build-refused (buildRefusal table (length buffer)) (tableBoard table) buffer;
-      readOff = λ table a. read-refused (tableOf table .refusal) (tableOf table .diagram) a;
+      readOff = λ table a. read-refused (readRefusal table a) (diagramIn table) a;
       run = λ netlist rails holds lines pairs.
           run-refused (runRefusal netlist rails holds (length lines) (length pairs)) (netlistOf (fieldsOf netlist .items)) rails holds lines pairs;
       probe = λ table hold buffer.

@@ -1,14 +1,14 @@
 -- The starred cases hold, by computation.
 use mathlib.Core.Path.{refl}
 use Rattle.pilgodur.specs.Starred.{AllHold, starred}
-use Rattle.fields.specs.Bounded.{all, any}
+use Rattle.fields.specs.Bounded.{all, any, listed, leastFrom}
 use Rattle.fields.specs.Fields.{stepAt, valueOf, fieldsWithin, fieldsFrom, fieldsOf, encoded}
 use Rattle.fields.specs.Refusals.{firstNo}
 use Rattle.files.specs.Header.{contactsIn}
 use Rattle.diagram.specs.Diagram.{width, edgeAt, root, inputOf}
 use Rattle.diagram.specs.Questions.{inRange, distinct, mention, mentions, brought, numbered, branching}
 use Rattle.table.specs.Table.{outputsIn, areLevels, padded, diagramOf, fieldsRefusal, diagramRefusal, tableRefusal}
-use Rattle.netlist.specs.Netlist.{listed, gatesOf, pairsOf, holdsOf, fileOf}
+use Rattle.netlist.specs.Netlist.{gatesOf, pairsOf, holdsOf, fileOf, fileWith}
 use Rattle.simulation.specs.Run.{drive, workOut, held, valuesOf, shownOf}
 use Rattle.netlist.specs.Questions.{areParts, formOf, isSound, areOrdered, netlistOf, netlistRefusal}
 use Rattle.simulation.specs.Service.{runRefusal, runOf}
@@ -17,11 +17,12 @@ use Rattle.rules.specs.Blocks.{cutWithin, cut, term, orTree, joined, productEnt
 use Rattle.rules.specs.Board.{wholeBlock, boardOf, depthsOf, depthOf}
 use Rattle.rules.specs.Code.{codeRails}
 use Rattle.synthesis.specs.Service.{checkedOf, buildRefusal, buildingOf}
-use Rattle.faults.specs.Betrayal.{stuckAt, noCode, betrays, leastFrom}
+use Rattle.faults.specs.Betrayal.{stuckAt, noCode, betrays}
 use Rattle.probe.specs.Service.{probeRefusal, probingOf}
+use Rattle.pilgodur.specs.Answers.{probeOf}
 use mathlib.Core.List.{flatMap}
 
 pub all-starred : AllHold starred
-unfolding all any stepAt valueOf fieldsWithin fieldsFrom fieldsOf encoded contactsIn firstNo width edgeAt root inputOf inRange distinct mention mentions brought numbered branching outputsIn areLevels padded diagramOf fieldsRefusal diagramRefusal tableRefusal listed gatesOf pairsOf holdsOf fileOf drive workOut held valuesOf shownOf areParts formOf isSound areOrdered netlistOf netlistRefusal runRefusal runOf _>>=_ sequence cutWithin cut term orTree joined productEntry product levelMatrix block wholeBlock boardOf depthsOf depthOf codeRails checkedOf buildRefusal buildingOf stuckAt noCode betrays leastFrom probeRefusal probingOf flatMap
+unfolding all any stepAt valueOf fieldsWithin fieldsFrom fieldsOf encoded contactsIn firstNo width edgeAt root inputOf inRange distinct mention mentions brought numbered branching outputsIn areLevels padded diagramOf fieldsRefusal diagramRefusal tableRefusal listed gatesOf pairsOf holdsOf fileOf fileWith drive workOut held valuesOf shownOf areParts formOf isSound areOrdered netlistOf netlistRefusal runRefusal runOf _>>=_ sequence cutWithin cut term orTree joined productEntry product levelMatrix block wholeBlock boardOf depthsOf depthOf codeRails checkedOf buildRefusal buildingOf stuckAt noCode betrays leastFrom probeRefusal probingOf probeOf flatMap
 all-starred =
     (refl, ((refl, refl, refl), ((refl, refl), ((refl, refl), ((refl, refl, refl, refl), ((refl, refl, refl, refl), ((refl, refl), (refl, ((refl, refl, refl), (refl, (refl, (refl, (refl, ((refl, refl, refl), tt))))))))))))))

@@ -1,8 +1,10 @@
--- The numbers that probe returns to C.
+-- What probe returns to C.
 use Prim.Native.Nat.{ℕ}
+use mathlib.Core.List.{List}
 use Rattle.probe.specs.declared.service.Way.{Way}
 use Rattle.probe.specs.declared.service.Way.the-variants.{BothLow, BothHigh}
 use Rattle.probe.specs.declared.service.Probed as core
+use Rattle.probe.specs.Service.{Probing, probingOf}
 use Rattle.pilgodur.specs.declared.Probed.{Probed}
 
 -- Low is 0, high is 1.
@@ -12,3 +14,8 @@ wayNumber BothHigh = 1
 
 abbrev pub probedBy : core.Probed → Probed
 probedBy p = record { refusal = p .refusal; input = p .input; output = p .output; way = wayNumber (p .way) }
+
+-- What probe returns to C, and what it leaves in the lent buffer.
+unfoldable pub probeOf : List ℕ → List ℕ → List ℕ → Probing Probed
+probeOf table hold buffer =
+    record { answer = probedBy (probingOf table hold buffer .answer); buffer = probingOf table hold buffer .buffer }

@@ -1,19 +1,18 @@
 -- The three demands, on the definitions that the services' contracts cite.
 --
 -- The services return and write just what these definitions say, for every byte string (the contracts in src/lib.rt):
--- check `checkedOf`, build `buildingOf`, read-off `readingOf`, run `runOf`, probe `probingOf`. That each call is answered, and that
+-- check `checkedOf`, build `buildingOf`, read-off `readingOf`, run `runOf`, probe `probeOf`. That each call is answered, and that
 -- nothing else is written, is what the proof of every function's contract says.
 use Prim.Native.Nat.{ℕ, suc}
 use mathlib.Core.Path.{_≡_}
 use mathlib.Core.List.{List}
-use Rattle.table.specs.Table.{readingOf, tableOf}
+use Rattle.table.specs.Table.{readingOf}
 use Rattle.simulation.specs.Service.{runOf}
 use Rattle.synthesis.specs.Service.{checkedOf, buildingOf}
 use Rattle.rules.specs.Promises.{WithinFormulas, BuiltFilesPass, RightCode, DifferentNetlists}
-use Rattle.probe.specs.declared.service.Way.the-variants.{BothLow}
-use Rattle.probe.specs.Promises.{Smallest, ProbeWrites}
+use Rattle.pilgodur.specs.Answers.{probeOf}
+use Rattle.pilgodur.specs.Promises.{Smallest, ProbeWrites}
 use Rattle.faults.specs.Promises.{NoWrongCode, RunWrites, NoUnseenLine}
-use Rattle.probe.specs.Service.{probingOf}
 
 -- Demand 1. The answer to every call is the full result or one numbered refusal; with a refusal every other result is zero, and it
 -- changes no byte that was lent.
@@ -22,12 +21,12 @@ pub record Refusals : Type 0 where
       (checkedOf table .contacts ≡ 0) × (checkedOf table .outputs ≡ 0) × (checkedOf table .gates ≡ 0) × (checkedOf table .depth ≡ 0)
   pub build : (table buffer : List ℕ) (k : ℕ) → buildingOf table buffer .refusal ≡ suc k →
       (buildingOf table buffer .length ≡ 0) × (buildingOf table buffer .file ≡ buffer)
-  pub readOff : (table : List ℕ) (a k : ℕ) → readingOf (tableOf table) a .refusal ≡ suc k → readingOf (tableOf table) a .word ≡ 0
+  pub readOff : (table : List ℕ) (a k : ℕ) → readingOf table a .refusal ≡ suc k → readingOf table a .word ≡ 0
   pub run : (netlist rails holds lines pairs : List ℕ) (k : ℕ) → runOf netlist rails holds lines pairs .refusal ≡ suc k →
       (runOf netlist rails holds lines pairs .lines ≡ lines) × (runOf netlist rails holds lines pairs .pairs ≡ pairs)
-  pub probe : (table hold buffer : List ℕ) (k : ℕ) → probingOf table hold buffer .answer .refusal ≡ suc k →
-      (probingOf table hold buffer .answer .input ≡ 0) × (probingOf table hold buffer .answer .output ≡ 0)
-      × (probingOf table hold buffer .answer .way ≡ BothLow) × (probingOf table hold buffer .buffer ≡ buffer)
+  pub probe : (table hold buffer : List ℕ) (k : ℕ) → probeOf table hold buffer .answer .refusal ≡ suc k →
+      (probeOf table hold buffer .answer .input ≡ 0) × (probeOf table hold buffer .answer .output ≡ 0)
+      × (probeOf table hold buffer .answer .way ≡ 0) × (probeOf table hold buffer .buffer ≡ buffer)
 
 -- Demand 2. The netlist of an accepted table is the one that the rules give: `buildingOf` and `checkedOf` speak of `boardOf`. It is
 -- within the formulas for gates and depth; each pair shows the table's value and its opposite; two different accepted tables have

@@ -5,9 +5,7 @@ use mathlib.Core.List.{List, [], _∷_}
 use lib.ListN.{replicate}
 use Rattle.simulation.specs.Service.{runOf}
 use Rattle.synthesis.specs.Service.{checkedOf, buildingOf}
-use Rattle.probe.specs.declared.service.Way.{Way}
-use Rattle.probe.specs.declared.service.Way.the-variants.{BothLow, BothHigh}
-use Rattle.probe.specs.Service.{probingOf}
+use Rattle.pilgodur.specs.Answers.{probeOf}
 
 -- What a service answers: check's numbers; the file that build writes to a buffer of its length; the pairs that a run of a netlist
 -- writes; probe's input, output and way.
@@ -15,25 +13,25 @@ pub data Case : Type 0 where
   checks : (table : List ℕ) (refusal contacts outputs gates depth : ℕ) → Case
   builds : (table : List ℕ) (length : ℕ) (file : List ℕ) → Case
   runs : (netlist rails holds pairs : List ℕ) → Case
-  probes : (table hold : List ℕ) (input output : ℕ) (way : Way) → Case
+  probes : (table hold : List ℕ) (input output way : ℕ) → Case
 
 -- Buffers that are always long enough here.
 abbrev room : List ℕ
 room = replicate 100 0
 
-abbrev pub Holds : Case → Type 0
-Holds (checks table refusal contacts outputs gates depth) =
+abbrev pub Answered : Case → Type 0
+Answered (checks table refusal contacts outputs gates depth) =
     checkedOf table ≡ record { refusal = refusal; contacts = contacts; outputs = outputs; gates = gates; depth = depth }
-Holds (builds table length file) =
+Answered (builds table length file) =
     let b = buildingOf table (replicate length 0) in (b .refusal ≡ 0) × (b .length ≡ length) × (b .file ≡ file)
-Holds (runs netlist rails holds pairs) =
+Answered (runs netlist rails holds pairs) =
     let r = runOf netlist rails holds (replicate 17 0) (replicate 2 0) in (r .refusal ≡ 0) × (r .pairs ≡ pairs)
-Holds (probes table hold input output way) =
-    let p = probingOf table hold room .answer in (p .refusal ≡ 0) × (p .input ≡ input) × (p .output ≡ output) × (p .way ≡ way)
+Answered (probes table hold input output way) =
+    let p = probeOf table hold room .answer in (p .refusal ≡ 0) × (p .input ≡ input) × (p .output ≡ output) × (p .way ≡ way)
 
 abbrev pub AllHold : List Case → Type 0
 AllHold [] = Unit
-AllHold (c ∷ cs) = Holds c × AllHold cs
+AllHold (c ∷ cs) = Answered c × AllHold cs
 
 -- The selector: the permit is contact 2 while contact 1 is open, else contact 0.
 abbrev pub selector : List ℕ
@@ -107,8 +105,8 @@ starred =
     ∷ runs selectorFile (1 ∷ 0 ∷ 1 ∷ 0 ∷ 0 ∷ 1 ∷ []) [] (1 ∷ 0 ∷ [])
     -- Input 6 with line 10 held at 0: contact 1 is closed, pair 01 all the same.
     ∷ runs selectorFile (0 ∷ 1 ∷ 1 ∷ 0 ∷ 1 ∷ 0 ∷ []) (0 ∷ 10 ∷ 0 ∷ []) (0 ∷ 1 ∷ [])
-    ∷ probes selector (0 ∷ 10 ∷ 0 ∷ []) 0 0 BothLow
-    ∷ probes selector (0 ∷ 10 ∷ 1 ∷ []) 3 0 BothHigh
+    ∷ probes selector (0 ∷ 10 ∷ 0 ∷ []) 0 0 0
+    ∷ probes selector (0 ∷ 10 ∷ 1 ∷ []) 3 0 1
     -- Line 14 held at 0 and line 16 at 1, input 0: pair 10, wrong; mixed holds carry no claim.
     ∷ runs selectorFile (0 ∷ 1 ∷ 0 ∷ 1 ∷ 0 ∷ 1 ∷ []) (0 ∷ 14 ∷ 0 ∷ 0 ∷ 16 ∷ 1 ∷ []) (1 ∷ 0 ∷ [])
     ∷ checks single 0 1 1 0 0

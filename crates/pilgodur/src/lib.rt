@@ -4,11 +4,10 @@ use synthesis::Built;
 use synthesis::Checked;
 use table::Reading;
 ghost use mathlib.Core.Path.{_≡_};
-ghost use Rattle.table.specs.Table.{tableOf, readingOf};
+ghost use Rattle.table.specs.Table.{readingOf};
 ghost use Rattle.simulation.specs.Service.{runOf};
 ghost use Rattle.synthesis.specs.Service.{checkedOf, buildingOf};
-ghost use Rattle.probe.specs.Service.{probingOf};
-ghost use Rattle.pilgodur.specs.Answers.{wayNumber, probedBy};
+ghost use Rattle.pilgodur.specs.Answers.{wayNumber, probeOf};
 
 // What probe returns to C; the way is 0 for both low, 1 for both high.
 #[repr(C)]
@@ -30,9 +29,8 @@ pub extern "C" fn pilgodur_check(table: &[u8]) -> Checked
 // Builds a table's netlist: questions 1 to 8, then 9; the file's bytes and its length.
 #[no_mangle]
 pub extern "C" fn pilgodur_build(table: &[u8], file: &mut [u8]) -> Built
-    ensures { λ r. ⌜ r .refusal ≡ buildingOf (now (table .entry)) (now (file .entry)) .refusal ⌝ }
-    ensures { λ r. ⌜ r .length ≡ buildingOf (now (table .entry)) (now (file .entry)) .length ⌝ }
-    ensures { λ _. ⌜ now (file .exit) ≡ buildingOf (now (table .entry)) (now (file .entry)) .file ⌝ }
+    ensures { λ r. ⌜ record { refusal = r .refusal; length = r .length; file = now (file .exit) }
+        ≡ buildingOf (now (table .entry)) (now (file .entry)) ⌝ }
 {
     synthesis::build(table, file)
 }
@@ -40,7 +38,7 @@ pub extern "C" fn pilgodur_build(table: &[u8], file: &mut [u8]) -> Built
 // Reads a table's outputs off at an input: questions 1 to 8, then 10.
 #[no_mangle]
 pub extern "C" fn pilgodur_read_off(table: &[u8], input: u32) -> Reading
-    ensures { λ r. ⌜ r ≡ readingOf (tableOf (now (table .entry))) input ⌝ }
+    ensures { λ r. ⌜ r ≡ readingOf (now (table .entry)) input ⌝ }
 {
     table::read_off(table, input)
 }
@@ -54,9 +52,8 @@ pub extern "C" fn pilgodur_run(
     lines: &mut [u8],
     pairs: &mut [u8],
 ) -> u32
-    ensures { λ r. ⌜ r ≡ runOf (now (netlist .entry)) (now (rails .entry)) (now (holds .entry)) (now (lines .entry)) (now (pairs .entry)) .refusal ⌝ }
-    ensures { λ _. ⌜ now (lines .exit) ≡ runOf (now (netlist .entry)) (now (rails .entry)) (now (holds .entry)) (now (lines .entry)) (now (pairs .entry)) .lines ⌝ }
-    ensures { λ _. ⌜ now (pairs .exit) ≡ runOf (now (netlist .entry)) (now (rails .entry)) (now (holds .entry)) (now (lines .entry)) (now (pairs .entry)) .pairs ⌝ }
+    ensures { λ r. ⌜ record { refusal = r; lines = now (lines .exit); pairs = now (pairs .exit) }
+        ≡ runOf (now (netlist .entry)) (now (rails .entry)) (now (holds .entry)) (now (lines .entry)) (now (pairs .entry)) ⌝ }
 {
     simulation::run(netlist, rails, holds, lines, pairs)
 }
@@ -74,8 +71,8 @@ fn way_number(way: Way) -> u32
 // Probes a stuck line: questions 1 to 8, 14, then 9.
 #[no_mangle]
 pub extern "C" fn pilgodur_probe(table: &[u8], hold: &[u8], buffer: &mut [u8]) -> Probed
-    ensures { λ r. ⌜ r ≡ probedBy (probingOf (now (table .entry)) (now (hold .entry)) (now (buffer .entry)) .answer) ⌝ }
-    ensures { λ _. ⌜ now (buffer .exit) ≡ probingOf (now (table .entry)) (now (hold .entry)) (now (buffer .entry)) .buffer ⌝ }
+    ensures { λ r. ⌜ record { answer = r; buffer = now (buffer .exit) }
+        ≡ probeOf (now (table .entry)) (now (hold .entry)) (now (buffer .entry)) ⌝ }
 {
     let probed = probe::probe(table, hold, buffer);
     let way = probed.way;

@@ -9,10 +9,8 @@ use Rattle.fields.proofs.Bounded.{and-left, and-right}
 use Rattle.diagram.specs.declared.Diagram.{Diagram}
 use Rattle.diagram.specs.Questions.{Sized, inRange}
 use Rattle.table.proofs.Accepted.{accepted}
-use Rattle.netlist.specs.declared.Gate.{Gate}
-use Rattle.netlist.specs.declared.Pair.{Pair}
 use Rattle.netlist.specs.declared.drive.Holds.the-variants.{Ordered}
-use Rattle.netlist.specs.Netlist.{Netlist, gateLine, lineCount, gateBytes, pairBytes, holdAt, fileOf}
+use Rattle.netlist.specs.Netlist.{Netlist, gateLine, lineCount, gateBytes, pairBytes, netWith, holdAt, fileOf, netOf}
 use Rattle.netlist.specs.Questions.{areGates, arePairs, isSound, netlistOf, areHolds}
 use Rattle.netlist.proofs.Files.{file-fields, file-length, length-gate-bytes, length-pair-bytes, gates-back, pairs-back}
 use Rattle.rules.specs.Board.{boardOf, tableBoard}
@@ -20,9 +18,8 @@ use Rattle.table.specs.Promises.{Accepted}
 use Rattle.table.specs.Table.{diagramIn}
 use Rattle.rules.proofs.Pairs.{pairs-length}
 use Rattle.rules.proofs.Promises.{within-formulas, built-files-pass}
-use Rattle.probe.specs.Findings.{Findable, Drawn}
+use Rattle.probe.specs.Inner.Findings.{ProbeReady, AcceptedDiagram}
 use Rattle.probe.specs.Service.{oneHold}
-use Rattle.words.specs.Words.{netOf}
 use Rattle.faults.proofs.Betrayed.{betrayed}
 use Rattle.probe.proofs.OneHold.{one-held, held-line}
 use Rattle.netlist.proofs.Accepted as netlists
@@ -37,7 +34,7 @@ module _ (net : Netlist) where
 
   pub net-is : netOf (net .contacts) gatesOn pairsOn ≡ net
   net-is =
-      ap₂ (λ (gs : List Gate) (ps : List Pair). record { contacts = net .contacts; gates = gs; pairs = ps })
+      ap₂ (netWith (net .contacts))
       (gates-back (net .gates)) (pairs-back (net .pairs))
 
 -- The bytes of an accepted table's netlist.
@@ -64,7 +61,7 @@ module _ (table : List ℕ) (yes! : Accepted table) where
 
   findable-in : (hold : List ℕ) (room : ℕ) → oneHold (lineCount (tableBoard table)) hold ≡ Ordered →
       length (fileOf (tableBoard table)) + lineCount (tableBoard table) ≤ room →
-      Findable (tableBoard table .contacts) gates pairs hold room
+      ProbeReady (tableBoard table .contacts) gates pairs hold room
   unfolding boardOf
   findable-in hold room o fits =
       let net = tableBoard table in
@@ -95,7 +92,7 @@ module _ (table : List ℕ) (yes! : Accepted table) where
       }
 
 -- The diagram of an accepted table: its size and range, and that every line of its board is found once no question refuses.
-module _ {d : Diagram} (a : Drawn d) where
+module _ {d : Diagram} (a : AcceptedDiagram d) where
   pub sized : Sized d
   sized = rw (a .is) (accepted (a .table) (a .accepted .1) .sized)
 
@@ -104,6 +101,6 @@ module _ {d : Diagram} (a : Drawn d) where
 
   pub findable : (hold : List ℕ) (room : ℕ) → oneHold (lineCount (boardOf d)) hold ≡ Ordered →
       length (fileOf (boardOf d)) + lineCount (boardOf d) ≤ room →
-      Findable (boardOf d .contacts) (gatesOn (boardOf d)) (pairsOn (boardOf d)) hold room
+      ProbeReady (boardOf d .contacts) (gatesOn (boardOf d)) (pairsOn (boardOf d)) hold room
   findable hold room o fits =
       rw (a .is) (findable-in (a .table) (a .accepted) hold room (rw (a .is) at o) (rw (a .is) at fits))

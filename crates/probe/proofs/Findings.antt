@@ -7,17 +7,16 @@ use lib.ListN.{length, take, drop, length-append, length-map, length-drop}
 use lib.Seq.{take-at, drop-at, drop-drop, take-length, drop-length}
 use Rattle.diagram.specs.Diagram.{inputOf}
 use Rattle.netlist.specs.declared.Hold.{Hold}
-use Rattle.netlist.specs.Netlist.{gateLine, gatesOf, holdAt, holdsOf}
+use Rattle.netlist.specs.Netlist.{gateLine, gatesOf, holdAt, holdsOf, netOf}
 use Rattle.simulation.specs.Run.{holding, driversOf, workOut, valuesOf}
-use Rattle.simulation.specs.Service.{over}
-use Rattle.simulation.specs.Walk.{Ready}
+use Rattle.files.specs.Room.{over}
+use Rattle.simulation.specs.Inner.Walk.{Ready}
 use Rattle.netlist.proofs.Lists.{length-gates}
 use Rattle.simulation.proofs.Runs.{length-run}
 use Rattle.rules.specs.Code.{codeRails}
 use Rattle.rules.proofs.Codes.{code-length}
 use Rattle.faults.specs.Betrayal.{stuckAt}
-use Rattle.probe.specs.Findings.{Showable}
-use Rattle.words.specs.Words.{netOf}
+use Rattle.probe.specs.Inner.Findings.{RunReady}
 use Rattle.probe.proofs.OneHold.{one-hold}
 
 module _ (file values buffer : List ℕ) where
@@ -40,10 +39,10 @@ module _ (file values buffer : List ℕ) where
       rw (append-assoc file values past, drop-at file (values ++ past) a l, take-at values past k m)
 
 module _ (n : ℕ) (gates hold : List ℕ) where
-  pub ready-at : {room : ℕ} {rails : List ℕ} → Showable n gates hold room → length rails ≡ 2 * n → Ready gates rails hold room
+  pub ready-at : {room : ℕ} {rails : List ℕ} → RunReady n gates hold room → length rails ≡ 2 * n → Ready gates rails hold room
   ready-at s l = record { few = omega arith; fits = omega arith; wired = rw l (s .wired); sorted = rw l (s .held) }
 
-  pub shown-at : {room : ℕ} (a : ℕ) {rails : List ℕ} → Showable n gates hold room → rails ≡ codeRails n (inputOf a) →
+  pub shown-at : {room : ℕ} (a : ℕ) {rails : List ℕ} → RunReady n gates hold room → rails ≡ codeRails n (inputOf a) →
       workOut (holding (holdsOf hold)) (driversOf rails (gatesOf gates)) (0 ∷ 1 ∷ []) ≡ stuckAt (netOf n gates []) (holdAt hold 0) a
   unfolding stuckAt valuesOf
   shown-at a s e = rw (one-hold hold (s .one), e)

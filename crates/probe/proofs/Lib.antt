@@ -3,4 +3,3 @@ pub mod Findings
 pub mod Probes
 pub mod Boards
 pub mod Outcomes
-pub mod Promises

@@ -9,7 +9,8 @@ use lib.Dec.{eqb}
 use lib.ListN.{length}
 use Rattle.netlist.specs.declared.drive.Holds.{Holds}
 use Rattle.netlist.specs.declared.drive.Holds.the-variants.{Ordered, Disordered}
-use Rattle.netlist.specs.Netlist.{holdAt, holdsOf, listed}
+use Rattle.netlist.specs.Netlist.{holdAt, holdsOf}
+use Rattle.fields.specs.Bounded.{listed}
 use Rattle.netlist.specs.Questions.{areHolds, areOrdered, holdsNumber}
 use Rattle.netlist.proofs.Tests.{HoldIn, holds-at}
 use Rattle.probe.specs.Service.{oneHold}

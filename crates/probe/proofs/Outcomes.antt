@@ -4,60 +4,61 @@ use mathlib.Core.Path.{_≡_, refl, sym, ap, ap₂, _∙_}
 use mathlib.Core.List.{List, [], _∷_, _++_}
 use lib.ListN.{length}
 use Rattle.fields.specs.Refusals.{firstNo}
+use Rattle.fields.proofs.Refusals.{first-no}
 use Rattle.diagram.specs.declared.Diagram.{Diagram}
 use Rattle.table.specs.declared.reading.Table.{Table}
-use Rattle.table.specs.Table.{tableRefusal, tableOf}
+use Rattle.table.specs.Table.{tableRefusal}
+use Rattle.table.specs.Inner.Read.{tableOf}
 use Rattle.table.proofs.Tables.{table-refusal}
 use Rattle.netlist.specs.declared.drive.Holds.the-variants.{Ordered, Disordered}
-use Rattle.netlist.specs.declared.drive.Room.the-variants.{Enough, Short}
+use Rattle.files.specs.declared.room.Room.the-variants.{Enough, Short}
 use Rattle.netlist.specs.Netlist.{Netlist, gateLine, lineCount, holdAt, fileOf}
-use Rattle.netlist.specs.Questions.{holdsNumber, roomOf, roomNumber}
-use Rattle.simulation.specs.Service.{over}
-use Rattle.simulation.proofs.Answers.{enough}
+use Rattle.netlist.specs.Questions.{holdsNumber}
+use Rattle.files.specs.Room.{over, roomOf, roomNumber}
+use Rattle.files.proofs.Buffers.{enough}
 use Rattle.rules.specs.Board.{boardOf}
-use Rattle.synthesis.proofs.Files.{file-of}
+use Rattle.netlist.proofs.Written.{file-of}
 use Rattle.synthesis.proofs.Services.{Unrefused, length-is}
 use Rattle.probe.specs.declared.service.Probed.{Probed}
 use Rattle.faults.specs.Betrayal.{stuckAt, smallestInput}
-use Rattle.probe.specs.Findings.{Findable, Found, Drawn}
-use Rattle.probe.specs.Service.{oneHold, probeRefusal, foundAt, refusedProbe, probingOn, probingOf}
+use Rattle.probe.specs.Inner.Findings.{ProbeReady, FoundAndWritten, AcceptedDiagram}
+use Rattle.probe.specs.Service.{oneHold, Probing, probeRefusal, foundAt, refusedProbe, probingOf}
+use Rattle.probe.specs.Inner.Probing.{probingOn}
 use Rattle.probe.proofs.Boards.{gatesOn, pairsOn, net-is, sized, findable}
 
-first-refusal : (k : ℕ) (ks : List ℕ) → (k ≡ 0 → ⊥) → firstNo (k ∷ ks) ≡ k
-unfolding firstNo
-first-refusal zero ks h = absurd (h refl)
-first-refusal (suc k) ks h = refl
+abbrev probing : Probed → List ℕ → Probing Probed
+probing r after = record { answer = r; buffer = after }
 
 -- What probe returns, and what it leaves in the buffer.
-abbrev pub Leaves : List ℕ → List ℕ → List ℕ → Probed → List ℕ → Type 0
-Leaves table hold buffer r after = (r ≡ probingOf table hold buffer .answer) × (after ≡ probingOf table hold buffer .buffer)
+abbrev pub ProbeLeaves : List ℕ → List ℕ → List ℕ → Probed → List ℕ → Type 0
+ProbeLeaves table hold buffer r after = probing r after ≡ probingOf table hold buffer
 
 -- The same of a board.
-abbrev pub LeavesOn : Netlist → List ℕ → List ℕ → Probed → List ℕ → Type 0
-LeavesOn net hold buffer r after = (r ≡ probingOn net hold buffer .answer) × (after ≡ probingOn net hold buffer .buffer)
+abbrev pub ProbeLeavesOn : Netlist → List ℕ → List ℕ → Probed → List ℕ → Type 0
+ProbeLeavesOn net hold buffer r after = probing r after ≡ probingOn net hold buffer
 
 module _ (table hold buffer : List ℕ) where
   refused : (k : ℕ) {r : Probed} → probeRefusal table hold (length buffer) ≡ k → (k ≡ 0 → ⊥) → r ≡ refusedProbe k →
-      Leaves table hold buffer r buffer
+      ProbeLeaves table hold buffer r buffer
   unfolding probingOf
   refused zero e h a = absurd (h refl)
-  refused (suc k) e h a = rw e (a, refl)
+  refused (suc k) e h a = rw e (ap (λ (r : Probed). probing r buffer) a)
 
   pub table-refused : {t : Table} {r : Probed} → t ≡ tableOf table → (t .refusal ≡ 0 → ⊥) → r ≡ refusedProbe (t .refusal) →
-      Leaves table hold buffer r buffer
+      ProbeLeaves table hold buffer r buffer
   unfolding probeRefusal
   table-refused {t} e h a =
       let is : t .refusal ≡ tableRefusal table = ap (λ (t : Table). t .refusal) e ∙ table-refusal table in
-      refused (t .refusal) (rw (← is) (first-refusal (t .refusal) _ h)) h a
+      refused (t .refusal) (rw (← is) (first-no (t .refusal) _ h)) h a
 
   -- Once the table has its yes, the answers are those of its diagram's board.
-  pub probe-done : {d : Diagram} {r : Probed} {after : List ℕ} → Unrefused table d → LeavesOn (boardOf d) hold buffer r after →
-      Leaves table hold buffer r after
+  pub probe-done : {d : Diagram} {r : Probed} {after : List ℕ} → Unrefused table d → ProbeLeavesOn (boardOf d) hold buffer r after →
+      ProbeLeaves table hold buffer r after
   unfolding probingOf probeRefusal firstNo
   probe-done u w = rw (u .yes) (rw (u .is) at w)
 
 -- A diagram's board that is made, question by question.
-module _ {d : Diagram} (drawn : Drawn d) {made : ℕ} (count : made ≡ length (boardOf d .gates)) (hold buffer : List ℕ) where
+module _ {d : Diagram} (drawn : AcceptedDiagram d) {made : ℕ} (count : made ≡ length (boardOf d .gates)) (hold buffer : List ℕ) where
   abbrev lines : ℕ
   lines = gateLine (d .contacts) + made
 
@@ -90,37 +91,38 @@ module _ {d : Diagram} (drawn : Drawn d) {made : ℕ} (count : made ≡ length (
       (λ (lines size : ℕ). firstNo (holdsNumber (oneHold lines hold) ∷ roomNumber (roomOf (size + lines) (length buffer)) ∷ []))
       (sym lines-are) (sym size-is)
 
-  pub disordered : {r : Probed} → oneHold lines hold ≡ Disordered → r ≡ refusedProbe 14 → LeavesOn (boardOf d) hold buffer r buffer
+  pub disordered : {r : Probed} → oneHold lines hold ≡ Disordered → r ≡ refusedProbe 14 → ProbeLeavesOn (boardOf d) hold buffer r buffer
   unfolding firstNo
   disordered o a =
       let no-order : number ≡ 14 = asked ∙ rw o in
-      rw no-order (a, refl)
+      rw no-order (ap (λ (r : Probed). probing r buffer) a)
 
   module _ (o : oneHold lines hold ≡ Ordered) where
-    pub short : {r : Probed} → roomOf wanted (length buffer) ≡ Short → r ≡ refusedProbe 9 → LeavesOn (boardOf d) hold buffer r buffer
+    pub short : {r : Probed} → roomOf wanted (length buffer) ≡ Short → r ≡ refusedProbe 9 → ProbeLeavesOn (boardOf d) hold buffer r buffer
     unfolding firstNo
     short e a =
         let no-room : number ≡ 9 = asked ∙ rw (o, e) in
-        rw no-room (a, refl)
+        rw no-room (ap (λ (r : Probed). probing r buffer) a)
 
     module _ {gates pairs : List ℕ} (g : gates ≡ gatesOn (boardOf d)) (p : pairs ≡ pairsOn (boardOf d))
         (e : roomOf wanted (length buffer) ≡ Enough) where
-      pub ready : Findable (d .contacts) gates pairs hold (length buffer)
+      pub ready : ProbeReady (d .contacts) gates pairs hold (length buffer)
       ready =
           rw (contacts-are, g, p)
           (findable drawn hold (length buffer) (rw lines-are at o)
           (rw (← lines-are, ← size-is) (enough wanted (length buffer) e)))
 
-      pub found : {r : Probed} {after : List ℕ} → Found (d .contacts) gates pairs hold buffer r after → LeavesOn (boardOf d) hold buffer r after
+      pub found : {r : Probed} {after : List ℕ} → FoundAndWritten (d .contacts) gates pairs hold buffer r after → ProbeLeavesOn (boardOf d) hold buffer r after
       unfolding firstNo
       found f =
           let net = boardOf d in
           let h = holdAt hold 0 in
-          let f' : Found (net .contacts) (gatesOn net) (pairsOn net) hold buffer _ _ = rw (contacts-are, g, p) at f in
+          let f' : FoundAndWritten (net .contacts) (gatesOn net) (pairsOn net) hold buffer _ _ = rw (contacts-are, g, p) at f in
           let none : number ≡ 0 = asked ∙ rw (o, e) in
-          rw none (
-            f' .answered ∙ ap (λ (net : Netlist). foundAt net (smallestInput net h) (stuckAt net h (smallestInput net h))) (net-is net),
-            f' .written
-                ∙ ap₂ (λ (file : List ℕ) (net : Netlist). over (file ++ stuckAt net h (smallestInput net h)) buffer) (file-of net)
-                (net-is net),
-          )
+          rw none
+          (ap₂ probing
+          (f' .answered
+          ∙ ap (λ (net : Netlist). foundAt (net .pairs) (smallestInput net h) (stuckAt net h (smallestInput net h))) (net-is net))
+          (f' .written
+          ∙ ap₂ (λ (file : List ℕ) (net : Netlist). over (file ++ stuckAt net h (smallestInput net h)) buffer) (file-of net)
+          (net-is net)))

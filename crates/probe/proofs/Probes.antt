@@ -2,20 +2,19 @@
 use Prim.Native.Nat.{ℕ, zero, suc, _*_, _/_, _^_, _<_}
 use mathlib.Core.Path.{_≡_, refl, sym, ap, _∙_}
 use mathlib.Core.Bool.{true}
-use mathlib.Core.List.{List, []}
+use mathlib.Core.List.{List}
 use lib.ListN.{length, getD}
 use Rattle.fields.specs.Bounded.{any}
 use Rattle.netlist.specs.declared.Hold.{Hold}
 use Rattle.netlist.specs.declared.Pair.{Pair}
-use Rattle.netlist.specs.Netlist.{numberAt, pairsOf}
+use Rattle.netlist.specs.Netlist.{numberAt, pairsOf, netOf}
 use Rattle.netlist.proofs.Lists.{getD-pairs}
 use Rattle.probe.specs.declared.service.Probed.{Probed}
 use Rattle.probe.specs.declared.service.Way.{Way}
 use Rattle.probe.specs.declared.service.Way.the-variants.{BothHigh}
-use Rattle.faults.specs.Betrayal.{stuckAt, noCode, betrays, smallestInput, lowestIn}
+use Rattle.faults.specs.Betrayal.{stuckAt, someNoCode, betrays, smallestInput, lowestNoCode}
 use Rattle.probe.specs.Service.{wayOf, foundAt}
-use Rattle.words.specs.Words.{netOf}
-use Rattle.faults.proofs.Least.{least-first}
+use Rattle.fields.proofs.Least.{least-first}
 
 -- A value that is not 0 is high.
 pub high : (v : ℕ) → (v ≡ 0 → ⊥) → BothHigh ≡ wayOf v
@@ -27,8 +26,8 @@ found input output way = record { refusal = 0; input = input; output = output; w
 
 -- The output and its true line's value, as the outputs' bytes name them.
 pub found-by : (pairs vs : List ℕ) (input output on : ℕ) (way : Way) → output < length pairs / 4 →
-    output ≡ lowestIn (netOf 0 [] pairs) vs → on ≡ getD vs (numberAt pairs (4 * output)) 0 → way ≡ wayOf on →
-    record { refusal = 0; input = input; output = output; way = way } ≡ foundAt (netOf 0 [] pairs) input vs
+    output ≡ lowestNoCode (pairsOf pairs) vs → on ≡ getD vs (numberAt pairs (4 * output)) 0 → way ≡ wayOf on →
+    record { refusal = 0; input = input; output = output; way = way } ≡ foundAt (pairsOf pairs) input vs
 found-by pairs vs input output on way l o e w =
     let none : Pair = record { on = 0; off = 0 } in
     let shown : ℕ → Way = λ j. wayOf (getD vs (getD (pairsOf pairs) j none .on) 0) in
@@ -36,14 +35,8 @@ found-by pairs vs input output on way l o e w =
     ∙ ap (λ (j : ℕ). found input j (shown j)) o
 
 module _ (n : ℕ) (gates pairs : List ℕ) where
-  -- What is found goes by the outputs alone.
-  pub found-same : (input : ℕ) (vs : List ℕ) → foundAt (netOf 0 [] pairs) input vs ≡ foundAt (netOf n gates pairs) input vs
-  unfolding noCode
-  found-same input vs = refl
-
   -- At the smallest betraying input some pair shows no code.
   pub betrayed-there : (h : Hold) → any (2 ^ n) (betrays (netOf n gates pairs) h) ≡ true →
-      any (length (pairsOf pairs)) (noCode (netOf 0 [] pairs) (stuckAt (netOf n gates pairs) h (smallestInput (netOf n gates pairs) h)))
-      ≡ true
-  unfolding betrays noCode
+      someNoCode (pairsOf pairs) (stuckAt (netOf n gates pairs) h (smallestInput (netOf n gates pairs) h)) ≡ true
+  unfolding betrays
   betrayed-there h seen = least-first (betrays (netOf n gates pairs) h) (2 ^ n) seen .passes

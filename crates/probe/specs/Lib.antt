@@ -1,3 +1,2 @@
 pub mod Service
-pub mod Findings
-pub mod Promises
+pub mod Inner

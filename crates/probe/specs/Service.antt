@@ -7,16 +7,17 @@ use lib.ListN.{length, getD}
 use Rattle.fields.specs.Refusals.{firstNo}
 use Rattle.table.specs.Table.{tableRefusal}
 use Rattle.netlist.specs.declared.Hold.{Hold}
+use Rattle.netlist.specs.declared.Pair.{Pair}
 use Rattle.netlist.specs.declared.drive.Holds.{Holds}
 use Rattle.netlist.specs.declared.drive.Holds.the-variants.{Ordered, Disordered}
 use Rattle.netlist.specs.Netlist.{Netlist, holdAt, lineCount, fileOf}
-use Rattle.netlist.specs.Questions.{areOrdered, holdsNumber, roomOf, roomNumber}
-use Rattle.simulation.specs.Service.{over}
+use Rattle.netlist.specs.Questions.{areOrdered, holdsNumber}
+use Rattle.files.specs.Room.{over, roomOf, roomNumber}
 use Rattle.rules.specs.Board.{tableBoard}
 use Rattle.probe.specs.declared.service.Probed.{Probed}
 use Rattle.probe.specs.declared.service.Way.{Way}
 use Rattle.probe.specs.declared.service.Way.the-variants.{BothLow, BothHigh}
-use Rattle.faults.specs.Betrayal.{stuckAt, smallestInput, lowestIn}
+use Rattle.faults.specs.Betrayal.{stuckAt, smallestInput, lowestNoCode}
 
 -- 14. Are the holds whole (just one for probe), naming a line from 2 up that is in the netlist, with value 0 or 1?
 abbrev pub oneHold : ℕ → List ℕ → Holds
@@ -39,14 +40,14 @@ wayOf (suc k) = BothHigh
 
 -- What probe returns where no question refuses: the lowest output whose pair shows no code among the line values at an input, and
 -- the way it shows.
-abbrev pub foundAt : Netlist → ℕ → List ℕ → Probed
-foundAt net input values =
-    let output = lowestIn net values in
+abbrev pub foundAt : List Pair → ℕ → List ℕ → Probed
+foundAt pairs input values =
+    let output = lowestNoCode pairs values in
     record {
       refusal = 0;
       input = input;
       output = output;
-      way = wayOf (getD values (getD (net .pairs) output (record { on = 0; off = 0 }) .on) 0);
+      way = wayOf (getD values (getD pairs output (record { on = 0; off = 0 }) .on) 0);
     }
 
 -- A refusal, with every other result zero.
@@ -54,28 +55,18 @@ abbrev pub refusedProbe : ℕ → Probed
 refusedProbe number = record { refusal = number; input = 0; output = 0; way = BothLow }
 
 -- What probe returns, and what it leaves in the lent buffer.
-pub record Probing : Type 0 where
-  pub answer : Probed
+pub record Probing (A : Type 0) : Type 0 where
+  pub answer : A
   pub buffer : List ℕ
 
 -- The smallest betraying input; the buffer then holds the file and the line values at that input with the line held. A refusal
 -- leaves the buffer as it came.
-abbrev pub probingOr : ℕ → Netlist → Hold → List ℕ → Probing
+abbrev pub probingOr : ℕ → Netlist → Hold → List ℕ → Probing Probed
 probingOr zero net hold buffer =
     let input = smallestInput net hold in
     let values = stuckAt net hold input in
-    record { answer = foundAt net input values; buffer = over (fileOf net ++ values) buffer }
+    record { answer = foundAt (net .pairs) input values; buffer = over (fileOf net ++ values) buffer }
 probingOr (suc k) net hold buffer = record { answer = refusedProbe (suc k); buffer = buffer }
 
--- What probe returns and leaves of a board once the table has its yes: question 14, then 9, then the smallest betraying input.
-abbrev pub probingOn : Netlist → List ℕ → List ℕ → Probing
-probingOn net hold buffer =
-    probingOr
-    (firstNo
-    (holdsNumber (oneHold (lineCount net) hold)
-    ∷ roomNumber (roomOf (length (fileOf net) + lineCount net) (length buffer))
-    ∷ []))
-    net (holdAt hold 0) buffer
-
-unfoldable pub probingOf : List ℕ → List ℕ → List ℕ → Probing
+unfoldable pub probingOf : List ℕ → List ℕ → List ℕ → Probing Probed
 probingOf table hold buffer = probingOr (probeRefusal table hold (length buffer)) (tableBoard table) (holdAt hold 0) buffer

@@ -1,24 +1,22 @@
 // The service probe.
 use diagram::Diagram;
+use files::Room;
 use netlist::Holds;
-use netlist::Room;
 ghost use mathlib.Core.Path.{_≡_};
 ghost use mathlib.Core.Bool.{true};
 ghost use mathlib.Core.List.{[], _++_};
 ghost use Prim.Native.Nat.{_+_, _*_, _≤_};
 ghost use lib.ListN.{length, take};
-ghost use Rattle.fields.specs.Bounded.{any};
 ghost use Rattle.diagram.specs.Diagram.{inputOf};
-ghost use Rattle.netlist.specs.Netlist.{holdAt, pairsOf};
+ghost use Rattle.netlist.specs.Netlist.{holdAt, pairsOf, fileWith, netOf};
 ghost use Rattle.netlist.specs.Questions.{arePairs};
-ghost use Rattle.simulation.specs.Service.{over};
+ghost use Rattle.files.specs.Room.{over};
 ghost use Rattle.rules.specs.Board.{boardOf};
 ghost use Rattle.rules.specs.Code.{codeRails};
-ghost use Rattle.synthesis.specs.Service.{fileWith};
-ghost use Rattle.faults.specs.Betrayal.{stuckAt, noCode};
-ghost use Rattle.probe.specs.Service.{oneHold, wayOf, foundAt, refusedProbe, probingOn, probingOf};
-ghost use Rattle.words.specs.Words.{netOf};
-ghost use Rattle.probe.specs.Findings.{Showable, Writable, Findable, Found, Drawn};
+ghost use Rattle.faults.specs.Betrayal.{stuckAt, someNoCode};
+ghost use Rattle.probe.specs.Service.{oneHold, wayOf, foundAt, refusedProbe, probingOf};
+ghost use Rattle.probe.specs.Inner.Probing.{probingOn};
+ghost use Rattle.probe.specs.Inner.Findings.{RunReady, WriteReady, ProbeReady, FoundAndWritten, AcceptedDiagram};
 
 // How a pair without a code shows.
 pub enum Way {
@@ -73,8 +71,9 @@ fn code_rails(n: usize, input: u32) -> [u8; 24]
 
 // Writes every line's value at a code input with a line held.
 fn show_at(gates: &[u8], n: usize, hold: &[u8], input: u32, lines: &mut [u8])
-    requires { ⌜ Showable n (now gates) (now hold) (length (now lines)) ⌝ }
-    ensures { λ _. ⌜ now (lines .exit) ≡ over (stuckAt (netOf n (now (gates .entry)) []) (holdAt (now (hold .entry)) 0) input) (now (lines .entry)) ⌝ }
+    requires { ⌜ RunReady n (now gates) (now hold) (length (now lines)) ⌝ }
+    ensures { λ _. ⌜ now (lines .exit)
+        ≡ over (stuckAt (netOf n (now (gates .entry)) []) (holdAt (now (hold .entry)) 0) input) (now (lines .entry)) ⌝ }
 {
     let rails = code_rails(n, input);
     let count = 2 * n;
@@ -101,11 +100,15 @@ fn write_at(
     input: u32,
     buffer: &mut [u8],
 ) -> usize
-    requires { ⌜ Writable n (now gates) (now pairs) (now hold) (length (now buffer)) ⌝ }
+    requires { ⌜ WriteReady n (now gates) (now pairs) (now hold) (length (now buffer)) ⌝ }
     ensures { λ r. ⌜ r ≡ 10 + length (now (gates .entry)) + length (now (pairs .entry)) ⌝ }
-    ensures { λ _. ⌜ now (buffer .exit) ≡ over (fileWith n (now (gates .entry)) (now (pairs .entry)) ++ stuckAt (netOf n (now (gates .entry)) (now (pairs .entry))) (holdAt (now (hold .entry)) 0) input) (now (buffer .entry)) ⌝ }
+    ensures { λ _. ⌜ now (buffer .exit)
+        ≡ over
+        (fileWith n (now (gates .entry)) (now (pairs .entry))
+        ++ stuckAt (netOf n (now (gates .entry)) (now (pairs .entry))) (holdAt (now (hold .entry)) 0) input)
+        (now (buffer .entry)) ⌝ }
 {
-    synthesis::put_file(buffer, n, gates, pairs);
+    netlist::put_file(buffer, n, gates, pairs);
     let start = 10 + gates.len() + pairs.len();
     show_at(gates, n, hold, input, &mut buffer[start..]);
     start
@@ -114,11 +117,11 @@ fn write_at(
 // Names the lowest output whose pair shows no code among the line values at an input, and the way it shows.
 fn name_output(pairs: &[u8], lines: &[u8], input: u32) -> Probed
     requires { ⌜ (arePairs (length (now lines)) (now pairs) ≡ true) × (length (now pairs) ≤ 32) ⌝ }
-    requires { ⌜ any (length (pairsOf (now pairs))) (noCode (netOf 0 [] (now pairs)) (now lines)) ≡ true ⌝ }
-    ensures { λ r. ⌜ r ≡ foundAt (netOf 0 [] (now (pairs .entry))) input (now (lines .entry)) ⌝ }
+    requires { ⌜ someNoCode (pairsOf (now pairs)) (now lines) ≡ true ⌝ }
+    ensures { λ r. ⌜ r ≡ foundAt (pairsOf (now (pairs .entry))) input (now (lines .entry)) ⌝ }
 {
     let output = search::lowest(pairs, lines);
-    let on = words::value_at(pairs, 4 * (output as usize), lines);
+    let on = batches::value_at(pairs, 4 * (output as usize), lines);
     let way = way_of(on);
     Probed {
         refusal: 0,
@@ -130,8 +133,9 @@ fn name_output(pairs: &[u8], lines: &[u8], input: u32) -> Probed
 
 // Finds the smallest code input that betrays a held line, and writes the netlist's file and the line values there.
 fn find(gates: &[u8], pairs: &[u8], n: usize, hold: &[u8], buffer: &mut [u8]) -> Probed
-    requires { ⌜ Findable n (now gates) (now pairs) (now hold) (length (now buffer)) ⌝ }
-    ensures { λ r. ⌜ Found n (now (gates .entry)) (now (pairs .entry)) (now (hold .entry)) (now (buffer .entry)) r (now (buffer .exit)) ⌝ }
+    requires { ⌜ ProbeReady n (now gates) (now pairs) (now hold) (length (now buffer)) ⌝ }
+    ensures { λ r. ⌜ FoundAndWritten n (now (gates .entry)) (now (pairs .entry)) (now (hold .entry))
+        (now (buffer .entry)) r (now (buffer .exit)) ⌝ }
 {
     let line = netlist::number_at(hold, 0) as usize;
     let input = search::search(gates, pairs, n, line, hold[2]);
@@ -142,9 +146,9 @@ fn find(gates: &[u8], pairs: &[u8], n: usize, hold: &[u8], buffer: &mut [u8]) ->
 
 // What probe returns and leaves of an accepted table's diagram; its board's gates are written to a buffer of their own.
 fn probe_board(d: Diagram, hold: &[u8], buffer: &mut [u8], gates: &mut [u8]) -> Probed
-    requires { ⌜ Drawn d × (5 * length (boardOf d .gates) ≤ length (now gates)) ⌝ }
-    ensures { λ r. ⌜ r ≡ probingOn (boardOf d) (now (hold .entry)) (now (buffer .entry)) .answer ⌝ }
-    ensures { λ _. ⌜ now (buffer .exit) ≡ probingOn (boardOf d) (now (hold .entry)) (now (buffer .entry)) .buffer ⌝ }
+    requires { ⌜ AcceptedDiagram d × (5 * length (boardOf d .gates) ≤ length (now gates)) ⌝ }
+    ensures { λ r. ⌜ record { answer = r; buffer = now (buffer .exit) }
+        ≡ probingOn (boardOf d) (now (hold .entry)) (now (buffer .entry)) ⌝ }
 {
     let n = d.contacts;
     let mut pairs = [0u8; 32];
@@ -155,7 +159,7 @@ fn probe_board(d: Diagram, hold: &[u8], buffer: &mut [u8], gates: &mut [u8]) -> 
     };
     let gate_bytes = 5 * made;
     let pair_bytes = 4 * d.outputs;
-    let Room::Enough = netlist::ask_room(10 + gate_bytes + pair_bytes + lines, buffer.len()) else {
+    let Room::Enough = files::ask_room(10 + gate_bytes + pair_bytes + lines, buffer.len()) else {
         return refused(9);
     };
     find(&gates[..gate_bytes], &pairs[..pair_bytes], n, hold, buffer)
@@ -165,8 +169,8 @@ fn probe_board(d: Diagram, hold: &[u8], buffer: &mut [u8], gates: &mut [u8]) -> 
 // buffer then holds the netlist's file and the line values at that input with the line held. A refusal leaves it as it came.
 // The buffer for the gates is as long as the formula asks, in three lengths.
 pub fn probe(table: &[u8], hold: &[u8], buffer: &mut [u8]) -> Probed
-    ensures { λ r. ⌜ r ≡ probingOf (now (table .entry)) (now (hold .entry)) (now (buffer .entry)) .answer ⌝ }
-    ensures { λ _. ⌜ now (buffer .exit) ≡ probingOf (now (table .entry)) (now (hold .entry)) (now (buffer .entry)) .buffer ⌝ }
+    ensures { λ r. ⌜ record { answer = r; buffer = now (buffer .exit) }
+        ≡ probingOf (now (table .entry)) (now (hold .entry)) (now (buffer .entry)) ⌝ }
 {
     let read = table::read(table);
     let refusal = read.refusal;

@@ -7,13 +7,13 @@ use mathlib.Core.Path.{_≡_, refl, sym, ap, _∙_}
 use mathlib.Core.List.{List, [], _∷_, _++_}
 use lib.ListN.{length, getD, set, List·getD-append}
 use lib.Seq.{getD-set-same, getD-set-other, getD-at}
-use Rattle.netlist.specs.Netlist.{listed}
-use Rattle.netlist.proofs.Lists.{getD-listed}
+use Rattle.fields.specs.Bounded.{listed}
+use Rattle.fields.proofs.Listed.{getD-listed}
 use Rattle.rules.specs.declared.Entry.{Entry}
 use Rattle.rules.specs.declared.Entry.the-variants.{Never, Line}
 use Rattle.rules.specs.Blocks.{entryAt}
 use Rattle.rules.specs.Board.{lineOf}
-use Rattle.products.specs.Cells.{entryOf, matrixOf, RowStored, Stored}
+use Rattle.products.specs.Inner.Cells.{entryOf, matrixOf, RowStored, Stored}
 
 pub line-entry : (x : ℕ) → (x ≡ 0 → ⊥) → (x ≡ 1 → ⊥) → Line x ≡ entryOf x
 line-entry zero h g = absurd (h refl)

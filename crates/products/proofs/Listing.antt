@@ -11,8 +11,8 @@ use Rattle.fields.specs.Bounded.{any}
 use Rattle.fields.proofs.Bounded.{any-at}
 use Rattle.rules.specs.declared.Entry.the-variants.{Never}
 use Rattle.rules.specs.Blocks.{Matrix, entryAt, isAlways, term}
-use Rattle.products.specs.Cells.{entryOf, matrixOf}
-use Rattle.products.specs.Terms.{anyAlways, Listed, ended, dropped, taken}
+use Rattle.products.specs.Inner.Cells.{entryOf, matrixOf}
+use Rattle.products.specs.Inner.Terms.{anyAlways, Listed, ended, dropped, taken}
 use Rattle.products.proofs.Cells.{cell-at}
 use Rattle.gates.proofs.Writing.{written-return}
 use Rattle.products.proofs.WrittenTerms.{Turned, turned-more}
@@ -57,7 +57,7 @@ module _ (left : List ℕ) {u w : ℕ} (hu : u < 8) (hw : w < 8) where
       rw (add-one w, other) (e ∙ sym (or-false _))
 
 -- What holds once the terms of the listed nodes before these are made.
-pub record Passed (left right : Matrix) (u v first made middle : ℕ) (nodes start out lines : List ℕ) (count total : ℕ) : Type 0 where
+pub record PassedNodes (left right : Matrix) (u v first made middle : ℕ) (nodes start out lines : List ℕ) (count total : ℕ) : Type 0 where
   pub w : ℕ
   pub rest : Listed left u middle w nodes
   pub turned : Turned left right u v first made w start out lines count total
@@ -88,11 +88,11 @@ module _ {left right : Matrix} {u v first made middle count total : ℕ} {start 
   find-last (dropped h e l) t = find-last l (turned-never h e t)
 
   pub passed-next : (i : ℕ) (nodes : List ℕ) → i < length nodes →
-      Passed left right u v first made middle (drop i nodes) start out lines count total →
+      PassedNodes left right u v first made middle (drop i nodes) start out lines count total →
       Next left right u v first made middle (getD nodes i 0) (drop (i + 1) nodes) start out lines count total
   passed-next i nodes h p = rw (add-one i) (find-next (rw (drop-cons nodes i 0 h) at (p .rest)) (p .turned))
 
   pub passed-last : (i : ℕ) (nodes : List ℕ) → i ≡ length nodes →
-      Passed left right u v first made middle (drop i nodes) start out lines count total →
+      PassedNodes left right u v first made middle (drop i nodes) start out lines count total →
       Turned left right u v first made middle start out lines count total
   passed-last i nodes h p = find-last (rw (h, drop-length nodes) at (p .rest)) (p .turned)

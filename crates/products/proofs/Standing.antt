@@ -8,7 +8,7 @@ use Rattle.rules.specs.declared.Entry.{Entry}
 use Rattle.rules.specs.Make.{Make, return, _>>=_, gate, sequence}
 use Rattle.rules.specs.Blocks.{entryAt, Cut, one, two, cut, term, orTree, joined, productEntry}
 use Rattle.rules.specs.Board.{lineOf}
-use Rattle.products.specs.Cells.{entryOf, matrixOf}
+use Rattle.products.specs.Inner.Cells.{entryOf, matrixOf}
 use Rattle.products.proofs.Cells.{line-entry, cell-at}
 use Rattle.rules.proofs.Every.{Every, none, more}
 use Rattle.rules.proofs.Entries.{OfLine, never, always, line, of-lines, entry-either}

@@ -8,8 +8,8 @@ use Rattle.fields.specs.Bounded.{any}
 use Rattle.rules.specs.declared.Entry.{Entry}
 use Rattle.rules.specs.declared.Entry.the-variants.{Always}
 use Rattle.rules.specs.Blocks.{Matrix, linesIn, joined, productEntry}
-use Rattle.gates.specs.Written.{Written, RoomFor}
-use Rattle.products.specs.Terms.{termsOf, Collected}
+use Rattle.gates.specs.Inner.Written.{Written, RoomFor}
+use Rattle.products.specs.Inner.Terms.{termsOf, Collected}
 use Rattle.rules.proofs.Products.{sure, entry-always, entry-joined}
 use Rattle.gates.proofs.Rooms.{room-first, room-then}
 use Rattle.gates.proofs.Writing.{written-return, written-bind}

@@ -6,9 +6,9 @@ use lib.ListN.{length, getD, set}
 use Rattle.rules.specs.declared.Entry.{Entry}
 use Rattle.rules.specs.declared.Entry.the-variants.{Never}
 use Rattle.rules.specs.Blocks.{Matrix, entryAt, productEntry, product}
-use Rattle.gates.specs.Written.{Written, RoomFor}
-use Rattle.products.specs.Terms.{rowOf}
-use Rattle.products.specs.Cells.{entryOf, RowStored, Stored}
+use Rattle.gates.specs.Inner.Written.{Written, RoomFor}
+use Rattle.products.specs.Inner.Terms.{rowOf}
+use Rattle.products.specs.Inner.Cells.{entryOf, RowStored, Stored}
 use Rattle.gates.proofs.Binding.{sequence-length}
 use Rattle.products.proofs.Cells.{row-none, row-more, row-same, rows-none, rows-more, stored-same, before-last, at-last}
 use Rattle.gates.proofs.Rooms.{room-turn}

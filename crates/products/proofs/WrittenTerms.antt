@@ -9,8 +9,8 @@ use Rattle.rules.specs.declared.Entry.{Entry}
 use Rattle.rules.specs.declared.Entry.the-variants.{Never, Always, Line}
 use Rattle.rules.specs.Make.{Make, sequence}
 use Rattle.rules.specs.Blocks.{Matrix, entryAt, term, linesIn}
-use Rattle.gates.specs.Written.{Written, RoomFor}
-use Rattle.products.specs.Terms.{termsOf, Collected}
+use Rattle.gates.specs.Inner.Written.{Written, RoomFor}
+use Rattle.products.specs.Inner.Terms.{termsOf, Collected}
 use Rattle.rules.proofs.Entries.{lines-few}
 use Rattle.gates.proofs.Rooms.{room-turn}
 use Rattle.gates.proofs.Writing.{written-none, written-more, written-own}

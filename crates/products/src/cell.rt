@@ -5,7 +5,7 @@ ghost use Prim.Native.Nat.{_≤_, _<_};
 ghost use lib.ListN.{length};
 ghost use Rattle.rules.specs.Blocks.{isAlways, entryAt};
 ghost use Rattle.rules.specs.Board.{lineOf};
-ghost use Rattle.products.specs.Cells.{entryOf, matrixOf};
+ghost use Rattle.products.specs.Inner.Cells.{entryOf, matrixOf};
 
 // The entry that a stored line stands for: 0 never, 1 always.
 pub fn entry_of(line: u16) -> Entry

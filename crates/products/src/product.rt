@@ -9,13 +9,14 @@ ghost use mathlib.Core.List.{[], _∷_};
 ghost use lib.ListN.{length, getD, take};
 ghost use lib.Seq.{sets};
 ghost use Rattle.fields.specs.Bounded.{any};
-ghost use Rattle.rules.specs.Blocks.{isAlways, entryAt, linesIn, productEntry, product};
-ghost use Rattle.gates.specs.Written.{Written, RoomFor};
-ghost use Rattle.products.specs.Cells.{matrixOf, Stored, RowStored};
-ghost use Rattle.products.specs.Terms.{anyAlways, termsOf, rowOf, Listed, Collected};
+ghost use Rattle.rules.specs.Blocks.{isAlways, entryAt, linesIn};
+ghost use Rattle.gates.specs.Inner.Written.{Written, Grown, RoomFor};
+ghost use Rattle.products.specs.Inner.Cells.{matrixOf, Stored, RowStored};
+ghost use Rattle.products.specs.Inner.Terms.{anyAlways, Listed, Collected};
+ghost use Rattle.products.specs.Inner.Terms.{storedTerms, storedEntry, storedRow, storedProduct};
 
 // How many lines are among the terms, and the number of gates made so far.
-struct Found {
+struct TermLines {
     count: usize,
     made: usize,
 }
@@ -41,7 +42,8 @@ fn sure(left: Entry, right: Entry) -> bool
 // factor in row u is always.
 fn list_nodes(left: &[u16], middle: usize, u: usize, nodes: &mut [usize]) -> Factors
     requires { ⌜ (middle ≤ 8) × (u < 8) × (64 ≤ length (now left)) × (8 ≤ length (now nodes)) ⌝ }
-    ensures { λ r. ⌜ (r .listed ≤ middle) × Listed (matrixOf (now (left .entry))) u middle 0 (take (r .listed) (now (nodes .exit))) ⌝ }
+    ensures { λ r. ⌜ (r .listed ≤ middle)
+        × Listed (matrixOf (now (left .entry))) u middle 0 (take (r .listed) (now (nodes .exit))) ⌝ }
     ensures { λ r. ⌜ r .some ≡ anyAlways middle (matrixOf (now (left .entry))) u ⌝ }
 {
     let mut listed = 0;
@@ -64,9 +66,11 @@ fn list_nodes(left: &[u16], middle: usize, u: usize, nodes: &mut [usize]) -> Fac
 
 // Whether some term of the entry in row u and column v is always; `some` says whether a factor in row u is.
 fn crosses(left: &[u16], right: &[u16], middle: usize, u: usize, v: usize, some: bool) -> bool
-    requires { ⌜ (middle ≤ 8) × (u < 8) × (v < 8) × (64 ≤ length (now left)) × (64 ≤ length (now right)) ⌝ }
+    requires { ⌜ (middle ≤ 8) × (u < 8) × (v < 8)
+        × (64 ≤ length (now left)) × (64 ≤ length (now right)) ⌝ }
     requires { ⌜ some ≡ anyAlways middle (matrixOf (now left)) u ⌝ }
-    ensures { λ r. ⌜ r ≡ any middle (λ w. isAlways (entryAt (matrixOf (now (left .entry))) u w) && isAlways (entryAt (matrixOf (now (right .entry))) w v)) ⌝ }
+    ensures { λ r. ⌜ r ≡ any middle (λ w.
+        isAlways (entryAt (matrixOf (now (left .entry))) u w) && isAlways (entryAt (matrixOf (now (right .entry))) w v)) ⌝ }
 {
     if !some {
         return false;
@@ -83,7 +87,8 @@ fn crosses(left: &[u16], right: &[u16], middle: usize, u: usize, v: usize, some:
 // Adds a term to the lines collected so far, if it is a line.
 fn collect(entry: Entry, lines: &mut [u16], count: usize) -> usize
     requires { ⌜ count < length (now lines) ⌝ }
-    ensures { λ r. ⌜ (r ≡ count + length (linesIn (entry ∷ []))) × (now (lines .exit) ≡ sets (now (lines .entry)) count (linesIn (entry ∷ []))) ⌝ }
+    ensures { λ r. ⌜ (r ≡ count + length (linesIn (entry ∷ [])))
+        × (now (lines .exit) ≡ sets (now (lines .entry)) count (linesIn (entry ∷ []))) ⌝ }
 {
     match entry {
         Entry::Never => count,
@@ -108,12 +113,15 @@ fn terms(
     out: &mut [u8],
     first: usize,
     made: usize,
-) -> Found
-    requires { ⌜ (middle ≤ 8) × (u < 8) × (v < 8) × (64 ≤ length (now left)) × (64 ≤ length (now right)) × (middle ≤ length (now lines)) ⌝ }
+) -> TermLines
+    requires { ⌜ (middle ≤ 8) × (u < 8) × (v < 8)
+        × (64 ≤ length (now left)) × (64 ≤ length (now right)) × (middle ≤ length (now lines)) ⌝ }
     requires { ⌜ Listed (matrixOf (now left)) u middle 0 (now used) ⌝ }
-    requires { ⌜ RoomFor (termsOf middle (matrixOf (now left)) (matrixOf (now right)) u v) first made (now out) ⌝ }
-    ensures { λ r. ⌜ Written (termsOf middle (matrixOf (now (left .entry))) (matrixOf (now (right .entry))) u v) first made (now (out .entry)) (now (out .exit)) (termsOf middle (matrixOf (now (left .entry))) (matrixOf (now (right .entry))) u v (first + made) .1) (r .made) ⌝ }
-    ensures { λ r. ⌜ Collected (termsOf middle (matrixOf (now (left .entry))) (matrixOf (now (right .entry))) u v (first + made) .1) (now (lines .exit)) (r .count) ⌝ }
+    requires { ⌜ RoomFor (storedTerms middle (now left) (now right) u v) first made (now out) ⌝ }
+    ensures { λ r. ⌜ Grown (storedTerms middle (now (left .entry)) (now (right .entry)) u v) first made
+        (now (out .entry)) (now (out .exit)) (r .made) ⌝ }
+    ensures { λ r. ⌜ Collected (storedTerms middle (now (left .entry)) (now (right .entry)) u v (first + made) .1)
+        (now (lines .exit)) (r .count) ⌝ }
 {
     let mut count = 0;
     let mut total = made;
@@ -125,7 +133,7 @@ fn terms(
         let found = joined.entry;
         count = collect(found, lines, count);
     }
-    Found {
+    TermLines {
         count: count,
         made: total,
     }
@@ -145,11 +153,13 @@ fn entry(
     first: usize,
     made: usize,
 ) -> Joined
-    requires { ⌜ (middle ≤ 8) × (u < 8) × (v < 8) × (64 ≤ length (now left)) × (64 ≤ length (now right)) ⌝ }
+    requires { ⌜ (middle ≤ 8) × (u < 8) × (v < 8)
+        × (64 ≤ length (now left)) × (64 ≤ length (now right)) ⌝ }
     requires { ⌜ some ≡ anyAlways middle (matrixOf (now left)) u ⌝ }
     requires { ⌜ Listed (matrixOf (now left)) u middle 0 (now used) ⌝ }
-    requires { ⌜ RoomFor (productEntry middle (matrixOf (now left)) (matrixOf (now right)) u v) first made (now out) ⌝ }
-    ensures { λ r. ⌜ Written (productEntry middle (matrixOf (now (left .entry))) (matrixOf (now (right .entry))) u v) first made (now (out .entry)) (now (out .exit)) (r .entry) (r .made) ⌝ }
+    requires { ⌜ RoomFor (storedEntry middle (now left) (now right) u v) first made (now out) ⌝ }
+    ensures { λ r. ⌜ Written (storedEntry middle (now (left .entry)) (now (right .entry)) u v) first made
+        (now (out .entry)) (now (out .exit)) (r .entry) (r .made) ⌝ }
 {
     if crosses(left, right, middle, u, v, some) {
         return Joined {
@@ -174,10 +184,13 @@ fn row(
     first: usize,
     made: usize,
 ) -> usize
-    requires { ⌜ (middle ≤ 8) × (columns ≤ 8) × (u < 8) × (64 ≤ length (now left)) × (64 ≤ length (now right)) × (64 ≤ length (now cells)) ⌝ }
-    requires { ⌜ (2 ≤ first) × RoomFor (rowOf middle (matrixOf (now left)) (matrixOf (now right)) columns u) first made (now out) ⌝ }
-    ensures { λ r. ⌜ Written (rowOf middle (matrixOf (now (left .entry))) (matrixOf (now (right .entry))) columns u) first made (now (out .entry)) (now (out .exit)) (rowOf middle (matrixOf (now (left .entry))) (matrixOf (now (right .entry))) columns u (first + made) .1) r ⌝ }
-    ensures { λ r. ⌜ RowStored (now (cells .entry)) (now (cells .exit)) u columns (λ v. getD (rowOf middle (matrixOf (now (left .entry))) (matrixOf (now (right .entry))) columns u (first + made) .1) v Entry.Never) ⌝ }
+    requires { ⌜ (middle ≤ 8) × (columns ≤ 8) × (u < 8)
+        × (64 ≤ length (now left)) × (64 ≤ length (now right)) × (64 ≤ length (now cells)) ⌝ }
+    requires { ⌜ (2 ≤ first) × RoomFor (storedRow middle (now left) (now right) columns u) first made (now out) ⌝ }
+    ensures { λ r. ⌜ Grown (storedRow middle (now (left .entry)) (now (right .entry)) columns u) first made
+        (now (out .entry)) (now (out .exit)) r ⌝ }
+    ensures { λ r. ⌜ RowStored (now (cells .entry)) (now (cells .exit)) u columns
+        (λ v. getD (storedRow middle (now (left .entry)) (now (right .entry)) columns u (first + made) .1) v Entry.Never) ⌝ }
 {
     let mut nodes = [0usize; 8];
     let factors = list_nodes(left, middle, u, &mut nodes);
@@ -205,10 +218,13 @@ pub fn multiply(
     first: usize,
     made: usize,
 ) -> usize
-    requires { ⌜ (rows ≤ 8) × (middle ≤ 8) × (columns ≤ 8) × (64 ≤ length (now left)) × (64 ≤ length (now right)) × (64 ≤ length (now cells)) ⌝ }
-    requires { ⌜ (2 ≤ first) × RoomFor (product rows middle columns (matrixOf (now left)) (matrixOf (now right))) first made (now out) ⌝ }
-    ensures { λ r. ⌜ Written (product rows middle columns (matrixOf (now (left .entry))) (matrixOf (now (right .entry)))) first made (now (out .entry)) (now (out .exit)) (product rows middle columns (matrixOf (now (left .entry))) (matrixOf (now (right .entry))) (first + made) .1) r ⌝ }
-    ensures { λ r. ⌜ Stored (now (cells .exit)) (entryAt (product rows middle columns (matrixOf (now (left .entry))) (matrixOf (now (right .entry))) (first + made) .1)) rows columns ⌝ }
+    requires { ⌜ (rows ≤ 8) × (middle ≤ 8) × (columns ≤ 8)
+        × (64 ≤ length (now left)) × (64 ≤ length (now right)) × (64 ≤ length (now cells)) ⌝ }
+    requires { ⌜ (2 ≤ first) × RoomFor (storedProduct rows middle columns (now left) (now right)) first made (now out) ⌝ }
+    ensures { λ r. ⌜ Grown (storedProduct rows middle columns (now (left .entry)) (now (right .entry))) first made
+        (now (out .entry)) (now (out .exit)) r ⌝ }
+    ensures { λ r. ⌜ Stored (now (cells .exit))
+        (entryAt (storedProduct rows middle columns (now (left .entry)) (now (right .entry)) (first + made) .1)) rows columns ⌝ }
 {
     let mut total = made;
     for u in 0..rows {

@@ -32,14 +32,14 @@ use Rattle.fields.proofs.Cursor as C
 use Rattle.fields.proofs.Cursor.Laws as C′
 use Rattle.fields.proofs.Step as S
 use Rattle.fields.proofs.Step.Laws as S′
-use Rattle.reader.specs.Found.{foundIn}
+use Rattle.reader.specs.Inner.Found.{foundIn}
 use Rattle.reader.specs.declared.Reader.{Reader}
 use Rattle.reader.proofs.Reader as T
 use Rattle.reader.proofs.Reader.Laws as T′
 
 -- What the functions of a reader say: `new`, `skip`, `next` and `value`.
-abbrev pub Made : RefT (List ℕ) → Reader → Type 0
-Made s d = (d .src ≡ s) × (d .at ≡ 0)
+abbrev pub MadeReader : RefT (List ℕ) → Reader → Type 0
+MadeReader s d = (d .src ≡ s) × (d .at ≡ 0)
 
 abbrev pub Moved : Reader → ℕ → Reader → Type 0
 Moved d n m = (m .src ≡ d .src) × (fieldsFrom (now (m .src)) (m .at) .items ≡ drop n (fieldsFrom (now (d .src)) (d .at) .items))
@@ -47,8 +47,8 @@ Moved d n m = (m .src ≡ d .src) × (fieldsFrom (now (m .src)) (m .at) .items �
 abbrev pub Stepped : Reader → Step → Type 0
 Stepped d s = s ≡ stepAt (now (d .src)) (d .at)
 
-abbrev pub Found : Reader → Step → RefT (List ℕ) → Type 0
-Found d s r = now r ≡ foundIn (now (d .src)) s
+abbrev pub FoundBy : Reader → Step → RefT (List ℕ) → Type 0
+FoundBy d s r = now r ≡ foundIn (now (d .src)) s
 
 -- The types of a reader and of its file, at a lifetime; of a cursor and of a step.
 abbrev α : Lft → NamedLft

@@ -7,8 +7,9 @@ use fields::value;
 pub use place::nth;
 ghost use mathlib.Core.Path.{_≡_};
 ghost use lib.ListN.{drop};
-ghost use Rattle.fields.specs.Fields.{stepAt, fieldsFrom};
-ghost use Rattle.reader.specs.Found.{foundIn};
+ghost use Rattle.fields.specs.Fields.{stepAt};
+ghost use Rattle.fields.specs.Inner.Walk.{itemsFrom};
+ghost use Rattle.reader.specs.Inner.Found.{foundIn};
 
 // The value of the field that a step found, as that part of the file; nothing where it found none.
 fn found(file: &[u8], step: Step) -> &[u8]
@@ -44,7 +45,8 @@ impl<'a> Reader<'a> {
 
     // The reader past so many fields more, or where the whole fields end before that.
     pub fn skip(self, count: usize) -> Reader<'a>
-        ensures { λ r. ⌜ (r .src ≡ self .entry .src) × (fieldsFrom (now (r .src)) (r .at) .items ≡ drop count (fieldsFrom (now (self .entry .src)) (self .entry .at) .items)) ⌝ }
+        ensures { λ r. ⌜ (r .src ≡ self .entry .src)
+            × (itemsFrom (now (r .src)) (r .at) ≡ drop count (itemsFrom (now (self .entry .src)) (self .entry .at))) ⌝ }
     {
         let cursor = Cursor { at: self.at };
         let moved = cursor.skip(self.src, count);

@@ -2,12 +2,11 @@
 use Prim.Native.Nat.{ℕ}
 use mathlib.Core.Path.{_≡_, refl}
 use mathlib.Core.List.{List, [], _∷_, flatMap}
-use Rattle.fields.specs.Bounded.{any}
+use Rattle.fields.specs.Bounded.{any, listed}
 use Rattle.fields.specs.Fields.{stepAt, valueOf, fieldsWithin, fieldsFrom, fieldsOf}
 use Rattle.diagram.specs.Diagram.{width, edgeAt, root}
 use Rattle.table.specs.Table.{padded, diagramOf, diagramIn}
 use Rattle.netlist.specs.declared.Gate.{Gate}
-use Rattle.netlist.specs.Netlist.{listed}
 use Rattle.rules.specs.Make.{_>>=_, sequence}
 use Rattle.rules.specs.Blocks.{cutWithin, cut, term, orTree, joined, productEntry, product, levelMatrix, block}
 use Rattle.rules.specs.Board.{wholeBlock, boardOf, tableBoard}

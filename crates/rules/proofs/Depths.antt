@@ -1,59 +1,49 @@
 -- A rail or constant has depth 0, a gate one more than its deeper source; so a board is at most as deep as the formula says.
-use Prim.Native.Nat.{ℕ, zero, suc, _+_, _*_, _-_, _≤_, _<_, max}
-use native.Mathlib.Nat.{le-of-eq, le-trans, mul-le-mul}
+use Prim.Native.Nat.{ℕ, suc, _+_, _-_, _≤_, _<_, max}
+use native.Mathlib.Nat.{add-zero, le-of-eq, le-trans, mul-le-mul}
 use native.Mathlib.Decide.{decLt}
 use native.Mathlib.Omega.{arith}
 use mathlib.Core.Path.{_≡_, _∙_}
-use mathlib.Core.List.{List, [], _∷_}
-use lib.ListN.{length, getD, replicate, length-append, length-replicate, getD-replicate, length-map}
+use mathlib.Core.List.{List, [], _∷_, map}
+use lib.ListN.{length, getD, replicate, length-replicate, getD-replicate, length-map}
 use Rattle.diagram.specs.declared.Diagram.{Diagram}
 use Rattle.diagram.specs.Diagram.{width}
 use Rattle.netlist.specs.Netlist.{Netlist, gateLine, lineCount}
-use Rattle.simulation.specs.Run.{Driver, rail, Rule}
+use Rattle.simulation.specs.Run.{gate}
 use Rattle.simulation.proofs.Runs.{length-run, run-first}
-use Rattle.rules.specs.Board.{boardOf, depthsOf, largest, depthOf}
+use Rattle.rules.specs.Board.{boardOf, depthRule, depthsOf, largest, depthOf}
 use Rattle.rules.specs.Formulas.{widest, depthMost}
 use Rattle.rules.proofs.Makes.{anyGate, Each}
 use Rattle.rules.proofs.Formulas.{widest-least, log2-least}
 use Rattle.rules.proofs.Lays.{LaidGate}
-use Rattle.simulation.proofs.Obeys.{rail-obeys, gate-obeys}
+use Rattle.simulation.proofs.Obeys.{gate-obeys}
 use Rattle.rules.proofs.Wired.{board-lays, gates-wired}
 
 -- The depth of a line.
 abbrev pub depthAt : Netlist → ℕ → ℕ
 depthAt net x = getD (depthsOf net) x 0
 
--- The rule of depths, and what drives the rails.
-abbrev rule : Rule ℕ
-rule = record { op = λ k a b. suc (max a b); shows = λ x v. v; none = 0 }
-
-abbrev rails : Netlist → List (Driver ℕ)
-rails net = replicate (2 * net .contacts) (rail 0)
-
 module _ (net : Netlist) where
-  rails-length : length (rails net) ≡ 2 * net .contacts
-  rails-length = length-replicate _ _
+  abbrev first : ℕ
+  first = gateLine (net .contacts)
 
   depths-length : length (depthsOf net) ≡ lineCount net
   unfolding depthsOf
-  depths-length = length-run _ _ _ ∙ simp (length-append, length-replicate, length-map) (omega arith)
+  depths-length = length-run _ _ _ ∙ simp (length-replicate, length-map)
 
-  rail-depth : (x : ℕ) → x < gateLine (net .contacts) → depthAt net x ≡ 0
+  rail-depth : (x : ℕ) → x < first → depthAt net x ≡ 0
   unfolding depthsOf
-  rail-depth zero h = run-first _ _ _ 0 0 (omega arith)
-  rail-depth (suc zero) h = run-first _ _ _ 1 0 (omega arith)
-  rail-depth (suc (suc i)) h =
-      let p : suc (suc i) ≡ 2 + i = omega arith in
-      rw p
-      (rail-obeys rule (rails net) (net .gates) (0 ∷ 0 ∷ []) i 0 0 (rail 0) (omega (arith, rails-length))
-      (getD-replicate (2 * net .contacts) i (rail 0) (rail 0) (omega arith)))
+  rail-depth x h =
+      run-first depthRule (map gate (net .gates)) (replicate first 0) x 0 (rw (length-replicate {A = ℕ} first 0) h)
+      ∙ getD-replicate first x 0 0 h
 
   gate-depth : (g : ℕ) → g < length (net .gates) →
-      let x = gateLine (net .contacts) + g in
+      let x = first + g in
       let at = getD (net .gates) g anyGate in
       at .left < x → at .right < x → depthAt net x ≡ suc (max (depthAt net (at .left)) (depthAt net (at .right)))
   unfolding depthsOf
-  gate-depth g h = rw rails-length at (gate-obeys rule (rails net) (net .gates) (0 ∷ 0 ∷ []) g anyGate h)
+  gate-depth g h =
+      rw (length-replicate {A = ℕ} first 0, add-zero first) at (gate-obeys depthRule [] (net .gates) (replicate first 0) g anyGate h)
 
 largest-most : (xs : List ℕ) (e : ℕ) → ((i : ℕ) → i < length xs → getD xs i 0 ≤ e) → largest xs ≤ e
 largest-most [] e h = omega arith

@@ -6,7 +6,7 @@ use Rattle.fields.specs.Fields.{Bytes, encoded}
 use Rattle.fields.proofs.Small.{Small, none, first, bytes, two, each, field-small}
 use Rattle.netlist.specs.declared.Gate.{Gate}
 use Rattle.netlist.specs.declared.Pair.{Pair}
-use Rattle.netlist.specs.Netlist.{Netlist, gateBytes, pairBytes, fileOf}
+use Rattle.netlist.specs.Netlist.{Netlist, gateBytes, pairBytes, fileWith, fileOf}
 use Rattle.netlist.proofs.Files.{length-gate-bytes, length-pair-bytes}
 use Rattle.netlist.proofs.Tests.{Bounds, Wired, PairsWired}
 
@@ -28,7 +28,7 @@ module _ (net : Netlist) (bounds : Bounds net) (wired : Wired net) (shown : Pair
       two (at .on) (omega arith) (two (at .off) (omega arith) none))
 
   pub file-bytes : Bytes (fileOf net)
-  unfolding fileOf encoded
+  unfolding fileOf fileWith encoded
   file-bytes =
       let g = length-gate-bytes (net .gates) in
       let p = length-pair-bytes (net .pairs) in

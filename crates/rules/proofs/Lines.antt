@@ -20,8 +20,8 @@ use Rattle.rules.proofs.Entries.{OfLine, never, always, line, of-map, o
 use Rattle.rules.proofs.Lays.{Lies, Lays, lays-return, lays-bind, lays-weaken, lays-gate, lays-sequence}
 
 -- A matrix whose lines have S, lie below line next and have at most depth e.
-abbrev pub Table : (ℕ → Type 0) → (ℕ → ℕ) → ℕ → ℕ → Matrix → Type 0
-Table S δ e next m = Every (Every (OfLine (Lies S δ e next))) m
+abbrev pub MatrixLies : (ℕ → Type 0) → (ℕ → ℕ) → ℕ → ℕ → Matrix → Type 0
+MatrixLies S δ e next m = Every (Every (OfLine (Lies S δ e next))) m
 
 -- What holds for a line and a depth, holds for later lines and greater depths.
 module _ {S : ℕ → Type 0} {δ : ℕ → ℕ} {e f n k : ℕ} (deeper : e ≤ f) (later : n ≤ k) where
@@ -37,10 +37,10 @@ module _ {S : ℕ → Type 0} {δ : ℕ → ℕ} {e f n k : ℕ} (deeper : e ≤
   row-on : {ts : List Entry} → Every (OfLine (Lies S δ e n)) ts → Every (OfLine (Lies S δ f k)) ts
   row-on all = every-map (λ t o. entry-on o) all
 
-  pub table-on : {m : Matrix} → Table S δ e n m → Table S δ f k m
+  pub table-on : {m : Matrix} → MatrixLies S δ e n m → MatrixLies S δ f k m
   table-on all = every-map (λ ts r. row-on r) all
 
-pub table-at : {S : ℕ → Type 0} {δ : ℕ → ℕ} {e next : ℕ} {m : Matrix} → Table S δ e next m → (u v : ℕ) →
+pub table-at : {S : ℕ → Type 0} {δ : ℕ → ℕ} {e next : ℕ} {m : Matrix} → MatrixLies S δ e next m → (u v : ℕ) →
     OfLine (Lies S δ e next) (entryAt m u v)
 table-at all u v = every-at (every-at all none u) never v
 
@@ -80,7 +80,7 @@ module _ {S : ℕ → Type 0} {δ : ℕ → ℕ} {most : ℕ} where
       lays-bind (or-lays (cut count) (more s all) (omega arith) (omega arith)) (λ mid y h l.
       lays-return (line (lies-on (omega arith) (omega arith) l)))
 
-  entry-lays : {e next : ℕ} (b middle : ℕ) (left right : Matrix) → Table S δ e next left → Table S δ e next right →
+  entry-lays : {e next : ℕ} (b middle : ℕ) (left right : Matrix) → MatrixLies S δ e next left → MatrixLies S δ e next right →
       middle ≤ 2 ^ b → suc e + b ≤ most → (u v : ℕ) →
       Lays S δ most (productEntry middle left right u v) next (λ end t. OfLine (Lies S δ (suc e + b) end) t)
   entry-lays {e} {next} b middle left right tl tr few fits u v =
@@ -94,7 +94,7 @@ module _ {S : ℕ → Type 0} {δ : ℕ → ℕ} {most : ℕ} where
   -- A matrix by rows.
   table-lays : (e next : ℕ) (f : ℕ → ℕ → Make Entry) (rows columns : ℕ) →
       ((u v n : ℕ) → u < rows → next ≤ n → Lays S δ most (f u v) n (λ end t. OfLine (Lies S δ e end) t)) →
-      Lays S δ most (sequence (λ u. sequence (f u) columns 0) rows 0) next (λ end m. Table S δ e end m)
+      Lays S δ most (sequence (λ u. sequence (f u) columns 0) rows 0) next (λ end m. MatrixLies S δ e end m)
   table-lays e next f rows columns o =
       lays-weaken
       (lays-sequence (λ n k r h all. row-on (omega arith) h all) _ rows 0 next (λ u n hu h.
@@ -103,9 +103,9 @@ module _ {S : ℕ → Type 0} {δ : ℕ → ℕ} {most : ℕ} where
       (λ end r h' (all, p). all)))
       (λ end m h (all, p). all)
 
-  product-lays : {e next : ℕ} (b rows middle columns : ℕ) (left right : Matrix) → Table S δ e next left →
-      Table S δ e next right → middle ≤ 2 ^ b → suc e + b ≤ most →
-      Lays S δ most (product rows middle columns left right) next (λ end m. Table S δ (suc e + b) end m)
+  product-lays : {e next : ℕ} (b rows middle columns : ℕ) (left right : Matrix) → MatrixLies S δ e next left →
+      MatrixLies S δ e next right → middle ≤ 2 ^ b → suc e + b ≤ most →
+      Lays S δ most (product rows middle columns left right) next (λ end m. MatrixLies S δ (suc e + b) end m)
   unfolding product
   product-lays {e} {next} b rows middle columns left right tl tr few fits =
       table-lays (suc e + b) next (productEntry middle left right) rows columns (λ u v n _ h.
@@ -125,7 +125,7 @@ module _ {S : ℕ → Type 0} {δ : ℕ → ℕ} (d : Diagram) (flat : (x : ℕ)
 
   module _ (most b : ℕ) (narrow : (l : ℕ) → l ≤ d .contacts → width d l ≤ 2 ^ b) where
     pub block-lays : (c : Cut) (l next : ℕ) → l + size c ≤ d .contacts → gateLine (d .contacts) ≤ next →
-        height c * suc b ≤ most → Lays S δ most (block d c l) next (λ end m. Table S δ (height c * suc b) end m)
+        height c * suc b ≤ most → Lays S δ most (block d c l) next (λ end m. MatrixLies S δ (height c * suc b) end m)
     unfolding block levelMatrix
     block-lays one l next h high fits =
         lays-weaken

@@ -39,8 +39,8 @@ abbrev pub Model : Netlist → Input → (ℕ → ℕ) → Type 0
 Model net x ν = Follows net (codeOf net x) ν (λ y made. ν y ≡ made)
 
 -- At a code input with some lines held at b.
-abbrev pub OneWay : Netlist → Input → ℕ → (ℕ → ℕ) → Type 0
-OneWay net x b ν = Follows net (codeOf net x) ν (λ y made. (ν y ≡ made) ⊎ (ν y ≡ b))
+abbrev pub OneSided : Netlist → Input → ℕ → (ℕ → ℕ) → Type 0
+OneSided net x b ν = Follows net (codeOf net x) ν (λ y made. (ν y ≡ made) ⊎ (ν y ≡ b))
 
 module _ {net : Netlist} {rails : List ℕ} {ν : ℕ → ℕ} {S : ℕ → ℕ → Type 0} where
   pub follows-weaken : {R : ℕ → ℕ → Type 0} → ((y made : ℕ) → S y made → R y made) → Follows net rails ν S → Follows net rails ν R
@@ -66,7 +66,7 @@ module _ {net : Netlist} {rails : List ℕ} {ν : ℕ → ℕ} {S : ℕ → ℕ 
           (_, rw place at (f .gates .has (y - gateLine (net .contacts)) (omega arith)))
 
 module _ {net : Netlist} (x : Input) {ν : ℕ → ℕ} where
-  pub one-way : (b : ℕ) → Model net x ν → OneWay net x b ν
+  pub one-way : (b : ℕ) → Model net x ν → OneSided net x b ν
   one-way b = follows-weaken (λ y made. inl)
 
   module _ {S : ℕ → ℕ → Type 0} (f : Follows net (codeOf net x) ν S) (i : ℕ) (h : i < net .contacts) where
@@ -79,7 +79,7 @@ module _ {net : Netlist} (x : Input) {ν : ℕ → ℕ} where
         rw (line, code-off x (net .contacts) i h) at (f .rail (2 * i + 1) (omega arith))
 
   -- With lines held at 0 every line that shows 1 is justified.
-  module _ (s : OneWay net x 0 ν) where
+  module _ (s : OneSided net x 0 ν) where
     pub gates-down : Gates (Down ν) net
     gates-down =
         each-weaken (λ y g. ⊎-elim (made-down ν y g (s .bits (g .left)) (s .bits (g .right))) (low-down ν y g)) (s .gates)
@@ -92,7 +92,7 @@ module _ {net : Netlist} (x : Input) {ν : ℕ → ℕ} where
         }
 
   -- With lines held at 1 every line shows 1 that its sources would make show 1.
-  module _ (s : OneWay net x 1 ν) where
+  module _ (s : OneSided net x 1 ν) where
     pub gates-up : Gates (Up ν) net
     gates-up =
         each-weaken (λ y g. ⊎-elim (made-up ν y g (s .bits (g .left)) (s .bits (g .right))) (high-up ν y g)) (s .gates)

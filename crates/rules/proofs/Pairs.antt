@@ -6,7 +6,7 @@ use lib.ListN.{length, getD}
 use Rattle.diagram.specs.declared.Diagram.{Diagram}
 use Rattle.diagram.specs.Diagram.{root}
 use Rattle.netlist.specs.declared.Pair.{Pair}
-use Rattle.netlist.proofs.Lists.{length-listed, getD-listed}
+use Rattle.fields.proofs.Listed.{length-listed, getD-listed}
 use Rattle.rules.specs.declared.Entry.{Entry}
 use Rattle.rules.specs.Blocks.{entryAt}
 use Rattle.rules.specs.Board.{wholeBlock, pairOf, boardOf}

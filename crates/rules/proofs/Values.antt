@@ -16,7 +16,7 @@ use Rattle.rules.specs.Blocks.{cut}
 use Rattle.rules.specs.Board.{lineOf, wholeBlock, boardOf}
 use Rattle.rules.proofs.Valuations.{shows}
 use Rattle.rules.proofs.Pairs.{wholeEntry, pair}
-use Rattle.rules.proofs.Models.{Model, OneWay, one-way, gates-down, rails-down, gates-up, rails-up}
+use Rattle.rules.proofs.Models.{Model, OneSided, one-way, gates-down, rails-down, gates-up, rails-up}
 use Rattle.rules.proofs.Cuts.{size-cut}
 use Rattle.rules.proofs.BlockDown.{block-down}
 use Rattle.rules.proofs.BlockUp.{block-up}
@@ -48,7 +48,7 @@ high-code on zero (suc value) p q v (f, g) = let e = f (omega arith) in inl (ome
 high-code on (suc off) (suc value) p q v (f, g) = let e = f (omega arith) in inr (omega arith, omega arith)
 
 module _ (d : Diagram) (ranged : inRange d ≡ true) (some : 1 ≤ d .contacts) (x : Input) (ν : ℕ → ℕ) where
-  module _ (s : OneWay (boardOf d) x 0 ν) (j : ℕ) (h : j < d .outputs) where
+  module _ (s : OneSided (boardOf d) x 0 ν) (j : ℕ) (h : j < d .outputs) where
     whole-down : (v : ℕ) → v < 2 → ν (lineOf (wholeEntry d j v)) ≡ 1 → valueAt d x j ≡ v
     unfolding boardOf wholeBlock valueAt
     whole-down v hv e =
@@ -60,7 +60,7 @@ module _ (d : Diagram) (ranged : inRange d ≡ true) (some : 1 ≤ d .contacts) 
     pub board-down : (ν (pair d j .on) ≡ 1 → valueAt d x j ≡ 1) × (ν (pair d j .off) ≡ 1 → valueAt d x j ≡ 0)
     board-down = (whole-down 1 (omega arith), whole-down 0 (omega arith))
 
-  module _ (s : OneWay (boardOf d) x 1 ν) (j : ℕ) (h : j < d .outputs) where
+  module _ (s : OneSided (boardOf d) x 1 ν) (j : ℕ) (h : j < d .outputs) where
     whole-up : (v : ℕ) → valueAt d x j ≡ v → ν (lineOf (wholeEntry d j v)) ≡ 1
     unfolding boardOf wholeBlock valueAt
     whole-up v e =
@@ -75,7 +75,7 @@ module _ (d : Diagram) (ranged : inRange d ≡ true) (some : 1 ≤ d .contacts) 
 
 -- Each pair shows the right code or the held value twice.
 pub no-wrong-code : (d : Diagram) → inRange d ≡ true → 1 ≤ d .contacts → (x : Input) (b : ℕ) (ν : ℕ → ℕ) → b ≤ 1 →
-    OneWay (boardOf d) x b ν → (j : ℕ) → j < d .outputs →
+    OneSided (boardOf d) x b ν → (j : ℕ) → j < d .outputs →
     Code (valueAt d x j) b (ν (pair d j .on)) (ν (pair d j .off))
 no-wrong-code d ranged some x zero ν h s j l =
     low-code _ _ _ (s .bits _) (s .bits _) (board-down d ranged some x ν s j l)

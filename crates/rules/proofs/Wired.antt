@@ -21,7 +21,7 @@ use Rattle.rules.proofs.Pairs.{pairs-length, pairs-at}
 use Rattle.rules.proofs.Formulas.{widest-at, log2-enough}
 use Rattle.rules.proofs.Entries.{OfLine, never, always, line}
 use Rattle.rules.proofs.Lays.{Lies, Rises, LaidGate}
-use Rattle.rules.proofs.Lines.{Table, table-on, table-at, block-lays}
+use Rattle.rules.proofs.Lines.{MatrixLies, table-on, table-at, block-lays}
 
 line-below : {S : ℕ → Type 0} {δ : ℕ → ℕ} {e next : ℕ} {t : Entry} → 2 ≤ next → OfLine (Lies S δ e next) t → lineOf t < next
 line-below some never = omega arith
@@ -40,7 +40,7 @@ module _ (d : Diagram) (some : 1 ≤ d .contacts) where
       ((l : ℕ) → l < d .contacts → Branches d l → S (2 + 2 * l) × S (3 + 2 * l)) →
       Each (Rises S δ) (gateLine (d .contacts)) (boardOf d .gates) →
       Each (LaidGate S δ (depthMost d)) (gateLine (d .contacts)) (boardOf d .gates)
-      × Table S δ (depthMost d) (lineCount (boardOf d)) (wholeBlock d .1)
+      × MatrixLies S δ (depthMost d) (lineCount (boardOf d)) (wholeBlock d .1)
   unfolding boardOf wholeBlock depthMost
   board-lays S δ flat rails rises =
       let n = d .contacts in
@@ -52,7 +52,7 @@ module _ (d : Diagram) (some : 1 ≤ d .contacts) where
       (wired, table-on deep (omega arith) table)
 
   flat : Each (LaidGate (λ x. 2 ≤ x) (λ _. 0) (depthMost d)) (gateLine (d .contacts)) (boardOf d .gates)
-      × Table (λ x. 2 ≤ x) (λ _. 0) (depthMost d) (lineCount (boardOf d)) (wholeBlock d .1)
+      × MatrixLies (λ x. 2 ≤ x) (λ _. 0) (depthMost d) (lineCount (boardOf d)) (wholeBlock d .1)
   flat =
       board-lays (λ x. 2 ≤ x) (λ _. 0) (λ x h. refl) (λ l h b. (omega arith, omega arith)) (record { has = λ i h. omega arith })
 

@@ -1,14 +1,15 @@
 -- The board of a diagram: its netlist, and the netlist's depth.
-use Prim.Native.Nat.{ℕ, suc, _+_, _*_, max}
-use mathlib.Core.List.{List, [], _∷_, _++_, map}
+use Prim.Native.Nat.{ℕ, suc, max}
+use mathlib.Core.List.{List, [], _∷_, map}
 use lib.ListN.{replicate}
 use Rattle.diagram.specs.declared.Diagram.{Diagram}
 use Rattle.diagram.specs.Diagram.{root}
 use Rattle.table.specs.Table.{diagramIn}
 use Rattle.netlist.specs.declared.Gate.{Gate}
 use Rattle.netlist.specs.declared.Pair.{Pair}
-use Rattle.netlist.specs.Netlist.{Netlist, gateLine, listed}
-use Rattle.simulation.specs.Run.{rail, gate, workOut}
+use Rattle.netlist.specs.Netlist.{Netlist, gateLine, netWith}
+use Rattle.fields.specs.Bounded.{listed}
+use Rattle.simulation.specs.Run.{Rule, gate, workOut}
 use Rattle.rules.specs.declared.Entry.{Entry}
 use Rattle.rules.specs.declared.Entry.the-variants.{Never, Always, Line}
 use Rattle.rules.specs.Blocks.{Matrix, entryAt, cut, block}
@@ -28,18 +29,14 @@ abbrev pub pairOf : Diagram → Matrix → ℕ → Pair
 pairOf d m j = record { on = lineOf (entryAt m (root d j) 1); off = lineOf (entryAt m (root d j) 0) }
 
 unfoldable pub boardOf : Diagram → Netlist
-boardOf d =
-    record {
-      contacts = d .contacts;
-      gates = wholeBlock d .0;
-      pairs = listed (pairOf d (wholeBlock d .1)) (d .outputs) 0;
-    }
+boardOf d = netWith (d .contacts) (wholeBlock d .0) (listed (pairOf d (wholeBlock d .1)) (d .outputs) 0)
 
 -- A rail or constant has depth 0, a gate one more than its deeper source.
+abbrev pub depthRule : Rule ℕ
+depthRule = record { op = λ k a b. suc (max a b); shows = λ x v. v; none = 0 }
+
 unfoldable pub depthsOf : Netlist → List ℕ
-depthsOf net =
-    workOut (record { op = λ k a b. suc (max a b); shows = λ x v. v; none = 0 })
-    (replicate (2 * net .contacts) (rail 0) ++ map gate (net .gates)) (0 ∷ 0 ∷ [])
+depthsOf net = workOut depthRule (map gate (net .gates)) (replicate (gateLine (net .contacts)) 0)
 
 abbrev pub largest : List ℕ → ℕ
 largest [] = 0

@@ -7,9 +7,9 @@ use mathlib.Core.Bool.{Bool, true, false}
 use Rattle.fields.specs.Bounded.{any}
 use Rattle.diagram.specs.Diagram.{bit}
 use Rattle.diagram.proofs.Inputs.{bit-true}
-use Rattle.words.specs.Words.{bitOf}
-use Rattle.words.proofs.Bits.{bit-zero}
-use Rattle.faults.proofs.Least.{First, within}
+use Rattle.batches.specs.Inner.Batches.{bitOf}
+use Rattle.batches.proofs.Bits.{bit-zero}
+use Rattle.fields.proofs.Least.{First, within}
 
 clear-false : (b : Bool) → bit b ≡ 0 → b ≡ false
 clear-false true e = absurd (omega arith)

@@ -1,7 +1,7 @@
 pub mod Found
 pub mod Lines
 pub mod Sources
-pub mod GateWords
+pub mod GateBatches
 pub mod Agree
 pub mod Masks
 pub mod CodeRails

@@ -2,32 +2,31 @@
 use crate::passes;
 ghost use mathlib.Core.Path.{_≡_};
 ghost use mathlib.Core.Bool.{true};
-ghost use mathlib.Core.List.{[]};
 ghost use Prim.Native.Nat.{ℕ, _/_, _≤_, _<_};
 ghost use lib.ListN.{length};
-ghost use Rattle.fields.specs.Bounded.{any};
 ghost use Rattle.diagram.specs.Diagram.{bit};
-ghost use Rattle.netlist.specs.Netlist.{pairsOf};
+ghost use Rattle.netlist.specs.Netlist.{pairsOf, netOf};
 ghost use Rattle.netlist.specs.Questions.{arePairs};
-ghost use Rattle.faults.specs.Betrayal.{noCode, least, smallestInput};
-ghost use Rattle.words.specs.Words.{bitOf, bitsOf, netOf, Searchable, Roomy};
+ghost use Rattle.faults.specs.Betrayal.{someNoCode, lowestNoCode, smallestInput};
+ghost use Rattle.batches.specs.Inner.Batches.{bitOf, bitsOf, SearchReady, BuffersFit};
 
 // The inputs at which some output's true and false line agree.
-fn agreeing(pairs: &[u8], words: &[u64]) -> u64
-    requires { ⌜ arePairs (length (now words)) (now pairs) ≡ true ⌝ }
-    ensures { λ r. ⌜ ((k : ℕ) → k < 64 → bitOf k r ≡ bit (any (length (pairsOf (now (pairs .entry)))) (noCode (netOf 0 [] (now (pairs .entry))) (bitsOf k (now (words .entry)))))) ⌝ }
+fn agreeing(pairs: &[u8], batches: &[u64]) -> u64
+    requires { ⌜ arePairs (length (now batches)) (now pairs) ≡ true ⌝ }
+    ensures { λ r. ⌜ ((k : ℕ) → k < 64 →
+        bitOf k r ≡ bit (someNoCode (pairsOf (now (pairs .entry))) (bitsOf k (now (batches .entry))))) ⌝ }
 {
     let mut mask = 0;
     for j in 0..pairs.len() / 4 {
         let at = 4 * j;
-        let on = words::word_at(pairs, at, words);
-        let off = words::word_at(pairs, at + 2, words);
-        mask = mask | ((on ^ off) ^ words::ONES);
+        let on = batches::batch_at(pairs, at, batches);
+        let off = batches::batch_at(pairs, at + 2, batches);
+        mask = mask | ((on ^ off) ^ batches::ONES);
     }
     mask
 }
 
-// The smallest code input that betrays a held line, which some input does, with room for the gates' sources and the lines' words.
+// The smallest code input that betrays a held line, which some input does, with room for the gates' sources and the lines' batches.
 fn search_in(
     gates: &[u8],
     pairs: &[u8],
@@ -38,24 +37,25 @@ fn search_in(
     low: &mut [u64],
     high: &mut [u64],
 ) -> u32
-    requires { ⌜ Searchable n (now gates) (now pairs) (record { line = line; value = value }) ⌝ }
-    requires { ⌜ Roomy n (now gates) (length (now sources)) (length (now low)) (length (now high)) ⌝ }
-    ensures { λ r. ⌜ r ≡ smallestInput (netOf n (now (gates .entry)) (now (pairs .entry))) (record { line = line; value = value }) ⌝ }
+    requires { ⌜ SearchReady n (now gates) (now pairs) (record { line = line; value = value }) ⌝ }
+    requires { ⌜ BuffersFit n (now gates) (length (now sources)) (length (now low)) (length (now high)) ⌝ }
+    ensures { λ r. ⌜ r
+        ≡ smallestInput (netOf n (now (gates .entry)) (now (pairs .entry))) (record { line = line; value = value }) ⌝ }
 {
     passes::take_sources(gates, 2 + 2 * n, line, value, sources);
-    let word = words::same_word(value);
+    let batch = batches::same_batch(value);
     let lines = 2 + 2 * n + gates.len() / 5;
     let mut base = 0;
     loop {
-        passes::work_words(gates, sources, n, base, line, word, low, high);
+        passes::work_batches(gates, sources, n, base, line, batch, low, high);
         let mask = agreeing(pairs, &low[..lines]);
         if mask != 0 {
-            return base as u32 + words::lowest_bit(mask);
+            return base as u32 + batches::lowest_bit(mask);
         }
         let next = base + 64;
         let mask = agreeing(pairs, &high[..lines]);
         if mask != 0 {
-            return next as u32 + words::lowest_bit(mask);
+            return next as u32 + batches::lowest_bit(mask);
         }
         base = next + 64;
     }
@@ -63,8 +63,9 @@ fn search_in(
 
 // The smallest code input that betrays a held line, which some input does. A small board has little room to clear.
 pub fn search(gates: &[u8], pairs: &[u8], n: usize, line: usize, value: u8) -> u32
-    requires { ⌜ Searchable n (now gates) (now pairs) (record { line = line; value = value }) ⌝ }
-    ensures { λ r. ⌜ r ≡ smallestInput (netOf n (now (gates .entry)) (now (pairs .entry))) (record { line = line; value = value }) ⌝ }
+    requires { ⌜ SearchReady n (now gates) (now pairs) (record { line = line; value = value }) ⌝ }
+    ensures { λ r. ⌜ r
+        ≡ smallestInput (netOf n (now (gates .entry)) (now (pairs .entry))) (record { line = line; value = value }) ⌝ }
 {
     if gates.len() <= 1150 {
         let mut sources = [0u16; 460];
@@ -87,13 +88,13 @@ pub fn search(gates: &[u8], pairs: &[u8], n: usize, line: usize, value: u8) -> u
 // The lowest output whose pair shows no code, which some output's does.
 pub fn lowest(pairs: &[u8], lines: &[u8]) -> u32
     requires { ⌜ (arePairs (length (now lines)) (now pairs) ≡ true) × (length (now pairs) / 4 ≤ 8) ⌝ }
-    requires { ⌜ any (length (pairsOf (now pairs))) (noCode (netOf 0 [] (now pairs)) (now lines)) ≡ true ⌝ }
-    ensures { λ r. ⌜ r ≡ least (length (pairsOf (now (pairs .entry)))) (noCode (netOf 0 [] (now (pairs .entry))) (now (lines .entry))) ⌝ }
+    requires { ⌜ someNoCode (pairsOf (now pairs)) (now lines) ≡ true ⌝ }
+    ensures { λ r. ⌜ r ≡ lowestNoCode (pairsOf (now (pairs .entry))) (now (lines .entry)) ⌝ }
 {
     let mut j = 0;
     loop {
         let at = 4 * j;
-        if words::value_at(pairs, at, lines) == words::value_at(pairs, at + 2, lines) {
+        if batches::value_at(pairs, at, lines) == batches::value_at(pairs, at + 2, lines) {
             return j as u32;
         }
         j += 1;

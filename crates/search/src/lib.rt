@@ -1,4 +1,4 @@
-// The search for the smallest code input that betrays a stuck line, two words of 64 inputs a pass.
+// The search for the smallest code input that betrays a stuck line, two batches of 64 inputs a pass.
 mod inputs;
 mod passes;
 

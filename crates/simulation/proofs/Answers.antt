@@ -1,40 +1,26 @@
--- What a yes to each of questions 12, 13, 14 and 9 says, and that lines can be worked out after them.
-use borrow.Author.Tests.{leb-true, eqb-true}
+-- What a yes to each of questions 13 and 14 says, and that lines can be worked out after them.
+use borrow.Author.Tests.{eqb-true}
 use native.Mathlib.Omega.{arith}
 use Prim.Native.Nat.{ℕ, _+_, _*_, _/_, _%_, _≤_}
 use mathlib.Core.Path.{_≡_, refl}
 use mathlib.Core.Bool.{Bool, true, false, _&&_, cond}
 use mathlib.Core.List.{List}
-use lib.Dec.{leb, eqb}
+use lib.Dec.{eqb}
 use lib.ListN.{length}
 use Rattle.fields.specs.Bounded.{all}
-use Rattle.fields.proofs.Bounded.{and-left, and-right, all-of}
-use Rattle.netlist.specs.declared.wiring.Wiring.the-variants.{Sound, Unsound}
+use Rattle.fields.proofs.Bounded.{all-of}
 use Rattle.netlist.specs.declared.drive.Rails.the-variants.{Driven, Undriven}
 use Rattle.netlist.specs.declared.drive.Holds.the-variants.{Ordered, Disordered}
-use Rattle.netlist.specs.declared.drive.Room.the-variants.{Enough, Short}
+use Rattle.files.specs.declared.room.Room.the-variants.{Enough}
 use Rattle.netlist.specs.Netlist.{gateLine, pairAt}
-use Rattle.netlist.specs.Questions.{areGates, isPair, arePairs, isSound, wiringOf, isBit, railsOf, areHolds, areOrdered, orderOf, roomOf}
-use Rattle.simulation.specs.Walk.{Ready}
+use Rattle.netlist.specs.Questions.{isPair, arePairs, isBit, railsOf, areHolds, areOrdered, orderOf}
+use Rattle.files.specs.Room.{roomOf}
+use Rattle.files.proofs.Buffers.{enough}
+use Rattle.netlist.proofs.Opened.{Opened, few-contacts, gates-wired}
+use Rattle.simulation.specs.Inner.Walk.{Ready}
 use Rattle.netlist.proofs.Tests.{pairs-at, in-pair}
 
 -- The yes of each question.
-sound : (n : ℕ) (gates pairs : List ℕ) → wiringOf n gates pairs ≡ Sound → isSound n gates pairs ≡ true
-sound n gates pairs = go (isSound n gates pairs)
-  where
-    go : (b : Bool) → cond b Sound Unsound ≡ Sound → b ≡ true
-    go true e = refl
-    go false e = absurd (let z : _≡_ {A = ℕ} 0 1 = cc in omega arith)
-
-pub gates-sound : (n : ℕ) (gates pairs : List ℕ) → wiringOf n gates pairs ≡ Sound → areGates (gateLine n) gates ≡ true
-unfolding isSound
-gates-sound n gates pairs e = and-left _ (arePairs (gateLine n + length gates / 5) pairs) (sound n gates pairs e)
-
-pub pairs-sound : (n : ℕ) (gates pairs : List ℕ) → wiringOf n gates pairs ≡ Sound →
-    arePairs (gateLine n + length gates / 5) pairs ≡ true
-unfolding isSound
-pairs-sound n gates pairs e = and-right (areGates (gateLine n) gates) _ (sound n gates pairs e)
-
 pub driven : (n : ℕ) (rails : List ℕ) → railsOf n rails ≡ Driven → length rails ≡ 2 * n
 driven n rails = go (eqb (length rails) (2 * n)) (all (2 * n) (isBit rails)) refl
   where
@@ -51,25 +37,18 @@ ordered lines holds = go (eqb (length holds % 3) 0) (areHolds lines holds)
     go true false e = absurd (let z : _≡_ {A = ℕ} 0 1 = cc in omega arith)
     go false b e = absurd (let z : _≡_ {A = ℕ} 0 1 = cc in omega arith)
 
-pub enough : (wanted lent : ℕ) → roomOf wanted lent ≡ Enough → wanted ≤ lent
-enough wanted lent = go (leb wanted lent) refl
-  where
-    go : (b : Bool) → leb wanted lent ≡ b → cond b Enough Short ≡ Enough → wanted ≤ lent
-    go true t e = leb-true _ _ t
-    go false t e = absurd (let z : _≡_ {A = ℕ} 0 1 = cc in omega arith)
-
 -- What is worked out from is ready after the questions.
-pub ready : (n : ℕ) (gates pairs rails holds : List ℕ) (room : ℕ) → n ≤ 12 →
-    wiringOf n gates pairs ≡ Sound → railsOf n rails ≡ Driven →
-    orderOf (gateLine n + length gates / 5) holds ≡ Ordered → roomOf (gateLine n + length gates / 5) room ≡ Enough →
-    Ready gates rails holds room
-ready n gates pairs rails holds room few w r o e =
+pub ready : {file : List ℕ} {n : ℕ} {gates outputs : List ℕ} (rails holds : List ℕ) (room : ℕ) → Opened file n gates outputs →
+    railsOf n rails ≡ Driven → orderOf (gateLine n + length gates / 5) holds ≡ Ordered →
+    roomOf (gateLine n + length gates / 5) room ≡ Enough → Ready gates rails holds room
+ready {n = n} {gates = gates} rails holds room p r o e =
     let l = driven n rails r in
     let m = enough (gateLine n + length gates / 5) room e in
+    let few = few-contacts p in
     record {
       few = omega arith;
       fits = omega arith;
-      wired = rw l (gates-sound n gates pairs w);
+      wired = rw l (gates-wired p);
       sorted = rw l (ordered (gateLine n + length gates / 5) holds o);
     }
 

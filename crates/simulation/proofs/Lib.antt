@@ -5,6 +5,5 @@ pub mod Monotone
 pub mod Waits
 pub mod Answers
 pub mod Outcomes
-pub mod Unrefused
 pub mod Writes
 pub mod Turns

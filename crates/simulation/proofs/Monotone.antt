@@ -9,7 +9,7 @@ use lib.ListN.{getD}
 use Rattle.netlist.specs.declared.Hold.{Hold}
 use Rattle.netlist.specs.Netlist.{Netlist}
 use Rattle.simulation.specs.Run.{gateOf, held, holding, valuesOf}
-use Rattle.simulation.proofs.Related.{Each, none, more, each-at, each-driver, run-each}
+use Rattle.simulation.proofs.Related.{Pairwise, none, more, each-at, each-driver, run-each}
 
 abbrev pub AllHeld : (ℕ → Type 0) → List Hold → Type 0
 AllHeld P [] = Unit
@@ -40,7 +40,7 @@ gate-bit k a b p q = go (eqb k 0)
     go true = omega arith
     go false = omega arith
 
-each-self : (R : ℕ → ℕ → Type 0) (rails : List ℕ) → ((i : ℕ) → R (getD rails i 0) (getD rails i 0)) → Each R rails rails
+each-self : (R : ℕ → ℕ → Type 0) (rails : List ℕ) → ((i : ℕ) → R (getD rails i 0) (getD rails i 0)) → Pairwise R rails rails
 each-self R [] h = none
 each-self R (a ∷ rails) h = more (h 0) (each-self R rails (λ i. h (suc i)))
 
@@ -52,7 +52,7 @@ pub values-each : (net : Netlist) (rails : List ℕ) (hs ks : List Hold) (R : �
     (k : ℕ) → R (getD (valuesOf net rails hs) k 0) (getD (valuesOf net rails ks) k 0)
 unfolding valuesOf
 values-each net rails hs ks R low high on-rails on-gates on-shows =
-    let constants : Each R (0 ∷ 1 ∷ []) (0 ∷ 1 ∷ []) = more low (more high none) in
+    let constants : Pairwise R (0 ∷ 1 ∷ []) (0 ∷ 1 ∷ []) = more low (more high none) in
     each-at
     (run-each (holding hs) (holding ks) R low on-gates on-shows (each-driver (net .gates) (each-self R rails on-rails)) constants)
     low

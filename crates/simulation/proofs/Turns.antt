@@ -9,12 +9,14 @@ use lib.Seq.{length-take-le, take-length, take-suc}
 use Rattle.netlist.specs.declared.Gate.{Gate}
 use Rattle.netlist.specs.declared.Pair.{Pair}
 use Rattle.netlist.specs.declared.Hold.{Hold}
-use Rattle.netlist.specs.Netlist.{gateAt, pairAt, listed, gatesOf, pairsOf}
+use Rattle.netlist.specs.Netlist.{gateAt, pairAt, gatesOf, pairsOf}
+use Rattle.fields.specs.Bounded.{listed}
 use Rattle.simulation.specs.Run.{Driver, rail, gate, drive, gateOf, held, holding, shownOf}
-use Rattle.simulation.specs.Service.{over}
-use Rattle.netlist.proofs.Lists.{length-listed, listed-more}
+use Rattle.files.specs.Room.{over}
+use Rattle.fields.proofs.Listed.{length-listed, listed-more}
 use Rattle.netlist.proofs.Tests.{GateOn, PairIn}
-use Rattle.simulation.proofs.Writes.{worked, source, one-more, over-at, over-set}
+use Rattle.simulation.proofs.Writes.{worked, source, one-more}
+use Rattle.files.proofs.Buffers.{over-at, over-set}
 
 module _ (holds : List Hold) (rails buffer : List ℕ) (room : 2 + length rails ≤ length buffer) where
   -- The buffer after i rails.

@@ -11,10 +11,11 @@ use lib.Dec.{ltb}
 use lib.ListN.{length}
 use Rattle.netlist.specs.declared.Hold.{Hold}
 use Rattle.simulation.specs.declared.simulate.Waiting.{Waiting}
-use Rattle.netlist.specs.Netlist.{holdAt, listed, holdsOf}
+use Rattle.netlist.specs.Netlist.{holdAt, holdsOf}
+use Rattle.fields.specs.Bounded.{listed}
 use Rattle.simulation.specs.Run.{held}
 use Rattle.netlist.specs.Questions.{areHolds}
-use Rattle.simulation.specs.Walk.{lineOrNone, Waits}
+use Rattle.simulation.specs.Inner.Walk.{lineOrNone, Waits}
 use Rattle.netlist.proofs.Tests.{holds-at}
 
 module _ (f : ℕ → Hold) (line v : ℕ) where

@@ -1,37 +1,14 @@
 -- What a buffer holds while lines are worked out into it, one after the other.
-use native.Mathlib.Nat.{add-sub-of-le}
 use native.Mathlib.Omega.{arith}
-use Prim.Native.Nat.{ℕ, suc, _+_, _-_, _≤_, _<_}
+use Prim.Native.Nat.{ℕ, _+_, _≤_, _<_}
 use mathlib.Core.Path.{_≡_, refl, sym, ap, _∙_}
-use mathlib.Core.List.{List, [], _∷_, _++_, append-assoc}
-use lib.ListN.{length, getD, take, drop, set, length-append, take-append-drop, List·getD-append}
-use lib.Seq.{length-take-le, drop-cons, drop-drop, drop-append-add, take-at, set-append-seam}
+use mathlib.Core.List.{List, [], _∷_, _++_}
+use lib.ListN.{length, getD, take, drop, set}
+use lib.Seq.{length-take-le, take-at}
 use Rattle.simulation.specs.Run.{Driver, Rule, drive, workOut}
-use Rattle.simulation.specs.Service.{over}
+use Rattle.files.specs.Room.{over}
+use Rattle.files.proofs.Buffers.{over-at, over-set, over-over}
 use Rattle.simulation.proofs.Runs.{length-run, run-append, run-more}
-
-module _ (ws buffer : List ℕ) where
-  pub over-at : (i : ℕ) → i < length ws → getD (over ws buffer) i 0 ≡ getD ws i 0
-  over-at i h = List·getD-append ws (drop (length ws) buffer) 0 i h
-
-  pub over-set : (x : ℕ) → length ws < length buffer → set (over ws buffer) (length ws) x ≡ over (ws ++ (x ∷ [])) buffer
-  over-set x h =
-      let l : length (ws ++ (x ∷ [])) ≡ suc (length ws) = simp length-append (omega arith) in
-      ap (λ (b : List ℕ). set (ws ++ b) (length ws) x) (drop-cons buffer (length ws) 0 h)
-      ∙ set-append-seam ws (getD buffer (length ws) 0) (drop (suc (length ws)) buffer) x
-      ∙ sym (ap (λ (k : ℕ). (ws ++ (x ∷ [])) ++ drop k buffer) l ∙ append-assoc ws (x ∷ []) (drop (suc (length ws)) buffer))
-
-  -- What is written over a shorter beginning covers it.
-  pub over-over : (vs : List ℕ) → length vs ≤ length ws → over ws (over vs buffer) ≡ over ws buffer
-  over-over vs h =
-      let k = length ws - length vs in
-      let e : length vs + k ≡ length ws = add-sub-of-le h in
-      ap (_++_ ws)
-      (ap (λ (n : ℕ). drop n (over vs buffer)) (sym e) ∙ drop-append-add vs (drop (length vs) buffer) k
-      ∙ drop-drop k (length vs) buffer ∙ ap (λ (n : ℕ). drop n buffer) e)
-
-pub over-own : (k : ℕ) (buffer : List ℕ) → k ≤ length buffer → buffer ≡ over (take k buffer) buffer
-over-own k buffer h = sym (rw (length-take-le k buffer h) (take-append-drop k buffer))
 
 -- The buffer after so many drivers from a line on.
 module _ (r : Rule ℕ) (first : ℕ) (buffer : List ℕ) where

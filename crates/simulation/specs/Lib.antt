@@ -1,3 +1,3 @@
 pub mod Run
 pub mod Service
-pub mod Walk
+pub mod Inner

@@ -1,11 +1,12 @@
 -- The service run: what it returns and writes.
 use Prim.Native.Nat.{ℕ, zero, suc, _*_}
-use mathlib.Core.List.{List, [], _∷_, _++_}
-use lib.ListN.{length, drop}
+use mathlib.Core.List.{List, [], _∷_}
+use lib.ListN.{length}
 use Rattle.fields.specs.Fields.{fieldsOf}
 use Rattle.fields.specs.Refusals.{firstNo}
+use Rattle.files.specs.Room.{roomOf, roomNumber, over}
 use Rattle.netlist.specs.Netlist.{Netlist, holdsOf, lineCount}
-use Rattle.netlist.specs.Questions.{railsOf, railsNumber, orderOf, holdsNumber, roomOf, roomNumber, netlistOf, netlistRefusal}
+use Rattle.netlist.specs.Questions.{railsOf, railsNumber, orderOf, holdsNumber, netlistOf, netlistRefusal}
 use Rattle.simulation.specs.Run.{valuesOf, shownBy}
 
 -- What a run returns, and what it leaves in the two lent buffers.
@@ -13,10 +14,6 @@ pub record Ran : Type 0 where
   pub refusal : ℕ
   pub lines : List ℕ
   pub pairs : List ℕ
-
--- The bytes written from the start of a buffer; those past them keep their values.
-abbrev pub over : List ℕ → List ℕ → List ℕ
-over written buffer = written ++ drop (length written) buffer
 
 -- Questions 11, 12, 13, 14 and 9, in this sequence.
 unfoldable pub runRefusal : List ℕ → List ℕ → List ℕ → ℕ → ℕ → ℕ

@@ -1,19 +1,18 @@
 // A netlist run with lines held.
-use netlist::Form;
+use files::Room;
 use netlist::Holds;
 use netlist::Rails;
-use netlist::Room;
-use netlist::Wiring;
 ghost use mathlib.Core.Path.{_≡_};
 ghost use mathlib.Core.Bool.{true};
 ghost use mathlib.Core.List.{_∷_, [], map};
 ghost use Prim.Native.Nat.{_+_, _*_, _/_, _≤_};
-ghost use lib.ListN.{length, take};
+ghost use lib.ListN.{length};
 ghost use Rattle.netlist.specs.Netlist.{gatesOf, pairsOf, holdsOf};
 ghost use Rattle.simulation.specs.Run.{rail, gate, gateOf, held, holding, driversOf, workOut, shownOf};
 ghost use Rattle.netlist.specs.Questions.{areGates, arePairs};
-ghost use Rattle.simulation.specs.Service.{over, runOf};
-ghost use Rattle.simulation.specs.Walk.{lineOrNone, Waits, Ready};
+ghost use Rattle.simulation.specs.Service.{runOf};
+ghost use Rattle.files.specs.Room.{over};
+ghost use Rattle.simulation.specs.Inner.Walk.{lineOrNone, Waits, workedOver, Ready};
 
 // The next hold, by its place in the hold list, and its line; 0, which is never held, past the last.
 struct Waiting {
@@ -45,7 +44,8 @@ fn wait(holds: &[u8], at: usize) -> Waiting
 // What a line shows, given what its driver makes.
 fn show(holds: &[u8], waiting: Waiting, line: usize, made: u8) -> Shown
     requires { ⌜ (2 ≤ line) × Waits (now holds) line waiting ⌝ }
-    ensures { λ r. ⌜ (r .value ≡ held (holdsOf (now (holds .entry))) line made) × Waits (now (holds .entry)) (line + 1) (r .waiting) ⌝ }
+    ensures { λ r. ⌜ (r .value ≡ held (holdsOf (now (holds .entry))) line made)
+        × Waits (now (holds .entry)) (line + 1) (r .waiting) ⌝ }
 {
     let at = waiting.at;
     if line != waiting.line {
@@ -75,7 +75,7 @@ fn make(kind: u8, a: u8, b: u8) -> u8
 fn put_rails(rails: &[u8], holds: &[u8], waiting: Waiting, lines: &mut [u8]) -> Waiting
     requires { ⌜ (2 + length (now rails) ≤ length (now lines)) × Waits (now holds) 2 waiting ⌝ }
     ensures { λ r. ⌜ Waits (now (holds .entry)) (2 + length (now (rails .entry))) r ⌝ }
-    ensures { λ _. ⌜ now (lines .exit) ≡ over (workOut (holding (holdsOf (now (holds .entry)))) (map rail (now (rails .entry))) (take 2 (now (lines .entry)))) (now (lines .entry)) ⌝ }
+    ensures { λ _. ⌜ now (lines .exit) ≡ workedOver (now (holds .entry)) (map rail (now (rails .entry))) 2 (now (lines .entry)) ⌝ }
 {
     let mut next = waiting;
     for i in 0..rails.len() {
@@ -91,7 +91,8 @@ fn put_rails(rails: &[u8], holds: &[u8], waiting: Waiting, lines: &mut [u8]) -> 
 fn put_gates(gates: &[u8], holds: &[u8], first: usize, waiting: Waiting, lines: &mut [u8])
     requires { ⌜ (2 ≤ first) × (first + length (now gates) / 5 ≤ length (now lines)) × Waits (now holds) first waiting ⌝ }
     requires { ⌜ areGates first (now gates) ≡ true ⌝ }
-    ensures { λ _. ⌜ now (lines .exit) ≡ over (workOut (holding (holdsOf (now (holds .entry)))) (map gate (gatesOf (now (gates .entry)))) (take first (now (lines .entry)))) (now (lines .entry)) ⌝ }
+    ensures { λ _. ⌜ now (lines .exit)
+        ≡ workedOver (now (holds .entry)) (map gate (gatesOf (now (gates .entry)))) first (now (lines .entry)) ⌝ }
 {
     let mut next = waiting;
     for g in 0..gates.len() / 5 {
@@ -110,7 +111,11 @@ fn put_gates(gates: &[u8], holds: &[u8], first: usize, waiting: Waiting, lines: 
 // Works out every line's value, from line 0 up: the constants, the rails, the gates.
 pub fn work_out(gates: &[u8], rails: &[u8], holds: &[u8], lines: &mut [u8])
     requires { ⌜ Ready (now gates) (now rails) (now holds) (length (now lines)) ⌝ }
-    ensures { λ _. ⌜ now (lines .exit) ≡ over (workOut (holding (holdsOf (now (holds .entry)))) (driversOf (now (rails .entry)) (gatesOf (now (gates .entry)))) (0 ∷ 1 ∷ [])) (now (lines .entry)) ⌝ }
+    ensures { λ _. ⌜ now (lines .exit)
+        ≡ over
+        (workOut (holding (holdsOf (now (holds .entry))))
+        (driversOf (now (rails .entry)) (gatesOf (now (gates .entry)))) (0 ∷ 1 ∷ []))
+        (now (lines .entry)) ⌝ }
 {
     lines[0] = 0;
     lines[1] = 1;
@@ -122,7 +127,8 @@ pub fn work_out(gates: &[u8], rails: &[u8], holds: &[u8], lines: &mut [u8])
 pub fn show_pairs(outputs: &[u8], lines: &[u8], pairs: &mut [u8])
     requires { ⌜ arePairs (length (now lines)) (now outputs) ≡ true ⌝ }
     requires { ⌜ 2 * (length (now outputs) / 4) ≤ length (now pairs) ⌝ }
-    ensures { λ _. ⌜ now (pairs .exit) ≡ over (shownOf (pairsOf (now (outputs .entry))) (now (lines .entry))) (now (pairs .entry)) ⌝ }
+    ensures { λ _. ⌜ now (pairs .exit)
+        ≡ over (shownOf (pairsOf (now (outputs .entry))) (now (lines .entry))) (now (pairs .entry)) ⌝ }
 {
     for j in 0..outputs.len() / 4 {
         let pair = netlist::pair_at(outputs, j);
@@ -134,18 +140,17 @@ pub fn show_pairs(outputs: &[u8], lines: &[u8], pairs: &mut [u8])
 // Works out every line's value with lines held: to the first buffer every line's value, from line 0 up, to the second two
 // bytes an output. A refusal leaves both as they came.
 pub fn run(netlist: &[u8], rails: &[u8], holds: &[u8], lines: &mut [u8], pairs: &mut [u8]) -> u32
-    ensures { λ r. ⌜ r ≡ runOf (now (netlist .entry)) (now (rails .entry)) (now (holds .entry)) (now (lines .entry)) (now (pairs .entry)) .refusal ⌝ }
-    ensures { λ _. ⌜ now (lines .exit) ≡ runOf (now (netlist .entry)) (now (rails .entry)) (now (holds .entry)) (now (lines .entry)) (now (pairs .entry)) .lines ⌝ }
-    ensures { λ _. ⌜ now (pairs .exit) ≡ runOf (now (netlist .entry)) (now (rails .entry)) (now (holds .entry)) (now (lines .entry)) (now (pairs .entry)) .pairs ⌝ }
+    ensures { λ r. ⌜ record { refusal = r; lines = now (lines .exit); pairs = now (pairs .exit) }
+        ≡ runOf (now (netlist .entry)) (now (rails .entry)) (now (holds .entry)) (now (lines .entry)) (now (pairs .entry)) ⌝ }
 {
-    let Form::Formed(n) = netlist::ask_form(netlist) else {
-        return 11;
-    };
-    let gates = reader::nth(netlist, 1);
-    let outputs = reader::nth(netlist, 2);
-    let Wiring::Sound = netlist::ask_wiring(n, gates, outputs) else {
-        return 12;
-    };
+    let parts = netlist::read(netlist);
+    let refusal = parts.refusal;
+    if refusal != 0 {
+        return refusal;
+    }
+    let n = parts.contacts;
+    let gates = fields::value(netlist, parts.gates);
+    let outputs = fields::value(netlist, parts.outputs);
     let Rails::Driven = netlist::ask_rails(n, rails) else {
         return 13;
     };
@@ -153,10 +158,10 @@ pub fn run(netlist: &[u8], rails: &[u8], holds: &[u8], lines: &mut [u8], pairs: 
     let Holds::Ordered = netlist::ask_holds(count, holds) else {
         return 14;
     };
-    let Room::Enough = netlist::ask_room(count, lines.len()) else {
+    let Room::Enough = files::ask_room(count, lines.len()) else {
         return 9;
     };
-    let Room::Enough = netlist::ask_room(2 * (outputs.len() / 4), pairs.len()) else {
+    let Room::Enough = files::ask_room(2 * (outputs.len() / 4), pairs.len()) else {
         return 9;
     };
     work_out(gates, rails, holds, lines);

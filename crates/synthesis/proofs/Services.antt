@@ -10,23 +10,27 @@ use Rattle.fields.specs.Refusals.{firstNo}
 use Rattle.diagram.specs.declared.Diagram.{Diagram}
 use Rattle.table.specs.declared.reading.Table.{Table}
 use Rattle.diagram.specs.Questions.{Sized, inRange}
-use Rattle.table.specs.Table.{tableRefusal, tableOf, diagramIn}
+use Rattle.table.specs.Table.{tableRefusal, diagramIn}
+use Rattle.table.specs.Inner.Read.{tableOf}
 use Rattle.table.proofs.Tables.{table-refusal, table-accepted, table-diagram}
 use Rattle.netlist.specs.declared.Gate.{Gate}
-use Rattle.netlist.specs.declared.drive.Room.{Room}
-use Rattle.netlist.specs.declared.drive.Room.the-variants.{Enough, Short}
-use Rattle.netlist.specs.Netlist.{Netlist, gateLine, gateAt, listed, gateBytes, pairBytes, fileOf}
-use Rattle.netlist.specs.Questions.{roomOf, roomNumber}
-use Rattle.simulation.specs.Service.{over}
+use Rattle.files.specs.declared.room.Room.{Room}
+use Rattle.files.specs.declared.room.Room.the-variants.{Enough, Short}
+use Rattle.netlist.specs.Netlist.{Netlist, gateLine, gateAt, gateBytes, pairBytes, netWith, fileOf, fileWith}
+use Rattle.fields.specs.Bounded.{listed}
+use Rattle.files.specs.Room.{over, roomOf, roomNumber}
 use Rattle.netlist.proofs.Files.{file-length, length-gate-bytes, length-pair-bytes}
 use Rattle.synthesis.specs.declared.service.Checked.{Checked}
 use Rattle.rules.specs.Board.{boardOf, depthsOf, depthOf, tableBoard}
-use Rattle.synthesis.specs.Service.{checkedOr, checkedOf, fileWith, buildRefusal, writingOf, buildingOf}
+use Rattle.synthesis.specs.Service.{checkedOr, checkedOf, Building, buildRefusal, buildingOf}
+use Rattle.synthesis.specs.Inner.Writing.{writingOf}
 use Rattle.rules.proofs.Bounds.{sized-narrow, gates-most}
-use Rattle.synthesis.specs.Depths.{Sourced}
+use Rattle.synthesis.specs.Inner.Depths.{SourcesBelow}
 use Rattle.products.proofs.Cells.{listed-from}
 use Rattle.rules.proofs.Depths.{depth-most}
-use Rattle.synthesis.proofs.Files.{taken-back, gates-read, file-of}
+use Rattle.synthesis.proofs.Files.{gates-read}
+use Rattle.netlist.proofs.Written.{file-of}
+use Rattle.files.proofs.Buffers.{taken-back}
 use Rattle.rules.proofs.Makes.{anyGate}
 use Rattle.rules.proofs.Pairs.{pairs-length}
 use Rattle.rules.proofs.Wired.{gates-wired}
@@ -49,19 +53,21 @@ refused-check : (k : ℕ) (net : Netlist) → (k ≡ 0 → ⊥) →
 refused-check zero net h = absurd (h refl)
 refused-check (suc k) net h = refl
 
+abbrev building : ℕ → ℕ → List ℕ → Building
+building k n after = record { refusal = k; length = n; file = after }
+
 -- What build returns, and what it leaves in the buffer.
 abbrev pub Builds : List ℕ → List ℕ → ℕ → ℕ → List ℕ → Type 0
-Builds table buffer k n after =
-    (k ≡ buildingOf table buffer .refusal) × ((n ≡ buildingOf table buffer .length) × (after ≡ buildingOf table buffer .file))
+Builds table buffer k n after = building k n after ≡ buildingOf table buffer
 
 pub answered : (table buffer : List ℕ) {after : List ℕ} {j k m n : ℕ} → (k ≡ j) × (n ≡ m) → Builds table buffer j m after →
     Builds table buffer k n after
-answered table buffer e b = (e .0 ∙ b .0, (e .1 ∙ b .1 .0, b .1 .1))
+answered table buffer {after} e b = ap₂ (λ (k n : ℕ). building k n after) (e .0) (e .1) ∙ b
 
 refused-build : (table buffer : List ℕ) (k : ℕ) → tableRefusal table ≡ k → (k ≡ 0 → ⊥) → Builds table buffer k 0 buffer
 unfolding buildingOf buildRefusal firstNo
 refused-build table buffer zero e h = absurd (h refl)
-refused-build table buffer (suc k) e h = rw e (refl, (refl, refl))
+refused-build table buffer (suc k) e h = rw e
 
 module _ (table : List ℕ) {t : Table} (e : t ≡ tableOf table) where
   refusal-is : t .refusal ≡ tableRefusal table
@@ -92,8 +98,7 @@ module _ (table : List ℕ) {t : Table} (e : t ≡ tableOf table) where
 
 -- What build leaves of a board.
 abbrev pub Writes : Netlist → List ℕ → ℕ → ℕ → List ℕ → Type 0
-Writes net buffer k n after =
-    (k ≡ writingOf net buffer .refusal) × ((n ≡ writingOf net buffer .length) × (after ≡ writingOf net buffer .file))
+Writes net buffer k n after = building k n after ≡ writingOf net buffer
 
 -- The board of a diagram, made in buffers with room for it.
 module _ (d : Diagram) (sized : Sized d) {made : ℕ} (count : made ≡ length (boardOf d .gates)) where
@@ -105,7 +110,7 @@ module _ (d : Diagram) (sized : Sized d) {made : ℕ} (count : made ≡ length (
     gates-are : listed (gateAt gates) made 0 ≡ boardOf d .gates
     gates-are = rw (count, written) (gates-read (boardOf d .gates) room wide)
 
-    pub sourced : Sourced gates (gateLine (d .contacts)) made
+    pub sourced : SourcesBelow gates (gateLine (d .contacts)) made
     sourced =
         record {
           at = λ g h.
@@ -117,10 +122,10 @@ module _ (d : Diagram) (sized : Sized d) {made : ℕ} (count : made ≡ length (
         }
 
     module _ {depth : ℕ}
-        (e : depth ≡ depthOf (record { contacts = d .contacts; gates = listed (gateAt gates) made 0; pairs = [] })) where
+        (e : depth ≡ depthOf (netWith (d .contacts) (listed (gateAt gates) made 0) [])) where
       depth-is : depth ≡ depthOf (boardOf d)
       unfolding boardOf depthOf depthsOf
-      depth-is = e ∙ ap (λ (gs : List Gate). depthOf (record { contacts = d .contacts; gates = gs; pairs = [] })) gates-are
+      depth-is = e ∙ ap (λ (gs : List Gate). depthOf (netWith (d .contacts) gs [])) gates-are
 
       pub depth-low : depth ≤ 16
       depth-low = rw depth-is (depth-most d (sized .contacts .0) (sized .contacts .1) (sized-narrow d sized))
@@ -164,14 +169,14 @@ module _ (d : Diagram) (sized : Sized d) {made : ℕ} (count : made ≡ length (
         Writes (boardOf d) buffer k n buffer
     write-short a e =
         let short : roomOf (length (fileOf (boardOf d))) (length buffer) ≡ Short = rw length-is at e in
-        rw short (a .0, (a .1, refl))
+        rw short (ap₂ (λ (k n : ℕ). building k n buffer) (a .0) (a .1))
 
     pub write-done : {after whole : List ℕ} → whole ≡ fileOf (boardOf d) →
         roomOf (10 + 5 * made + 4 * d .outputs) (length buffer) ≡ Enough → after ≡ over whole buffer →
         Writes (boardOf d) buffer 0 (10 + 5 * made + 4 * d .outputs) after
     write-done w e a =
         let enough : roomOf (length (fileOf (boardOf d))) (length buffer) ≡ Enough = rw length-is at e in
-        rw enough (refl, (length-is, a ∙ ap (λ (ws : List ℕ). over ws buffer) w))
+        rw enough (ap₂ (building 0) length-is (a ∙ ap (λ (ws : List ℕ). over ws buffer) w))
 
 -- Once the table has its yes, the answers are those of its diagram's board.
 module _ {table : List ℕ} {d : Diagram} (u : Unrefused table d) where

@@ -11,13 +11,14 @@ use Rattle.diagram.specs.declared.Diagram.{Diagram}
 use Rattle.diagram.specs.Diagram.{width, root}
 use Rattle.diagram.specs.Questions.{Sized, inRange}
 use Rattle.diagram.proofs.Paths.{width-last, root-in}
-use Rattle.netlist.specs.Netlist.{gateLine, gateBytes, listed}
+use Rattle.netlist.specs.Netlist.{gateLine, gateBytes}
+use Rattle.fields.specs.Bounded.{listed}
 use Rattle.rules.specs.Blocks.{Matrix, entryAt, cut, block}
 use Rattle.rules.specs.Board.{lineOf, wholeBlock, pairOf, boardOf}
-use Rattle.gates.specs.Written.{Written, RoomFor}
-use Rattle.products.specs.Cells.{matrixOf, Stored}
+use Rattle.gates.specs.Inner.Written.{Written, RoomFor}
+use Rattle.products.specs.Inner.Cells.{matrixOf, Stored}
 use Rattle.rules.proofs.Bounds.{sized-narrow, gates-most}
-use Rattle.synthesis.proofs.WrittenPairs.{listed-same}
+use Rattle.fields.proofs.Listed.{listed-same}
 
 module _ (d : Diagram) where
   pub board-room : Sized d → {out : List ℕ} → 5 * length (boardOf d .gates) ≤ length out →

@@ -1,8 +1,8 @@
 -- The outputs' pairs as they are read from the stored matrix and written.
-use Prim.Native.Nat.{ℕ, zero, suc, _+_, _*_, _/_, _%_, _<_}
+use Prim.Native.Nat.{ℕ, _+_, _*_, _/_, _%_, _<_}
 use native.Mathlib.Nat.{add-zero}
 use native.Mathlib.Omega.{arith}
-use mathlib.Core.Path.{_≡_, refl, sym, ap, ap₂, _∙_}
+use mathlib.Core.Path.{_≡_, refl, sym, ap, _∙_}
 use mathlib.Core.Bool.{true}
 use mathlib.Core.List.{List, [], _∷_, _++_, flatMap}
 use lib.ListN.{length, getD}
@@ -13,19 +13,15 @@ use Rattle.diagram.specs.Questions.{Sized, inRange}
 use Rattle.diagram.proofs.Paths.{root-in}
 use Rattle.files.proofs.Written.{sets-more}
 use Rattle.netlist.specs.declared.Pair.{Pair}
-use Rattle.netlist.specs.Netlist.{pairBytes, listed}
+use Rattle.netlist.specs.Netlist.{pairBytes}
+use Rattle.fields.specs.Bounded.{listed}
 use Rattle.netlist.proofs.Files.{length-pair-bytes}
-use Rattle.netlist.proofs.Lists.{length-listed, listed-more}
+use Rattle.fields.proofs.Listed.{length-listed, listed-more, listed-same}
 use Rattle.rules.specs.Blocks.{entryAt}
 use Rattle.rules.specs.Board.{lineOf, pairOf}
-use Rattle.products.specs.Cells.{matrixOf}
+use Rattle.products.specs.Inner.Cells.{matrixOf}
 use Rattle.products.proofs.Cells.{entry-line, cell-at}
 use Rattle.fields.proofs.Parts.{flat-append}
-
-pub listed-same : {A : Type 0} (f g : ℕ → A) (count p : ℕ) → ((i : ℕ) → i < p + count → f i ≡ g i) → listed f count p ≡ listed g count p
-unfolding listed
-listed-same f g zero p h = refl
-listed-same f g (suc count) p h = ap₂ _∷_ (h p (omega arith)) (listed-same f g count (suc p) (λ i l. h i (omega arith)))
 
 -- The pair of an output whose node is given, read from the stored lines.
 abbrev pub storedPair : List ℕ → List ℕ → ℕ → Pair

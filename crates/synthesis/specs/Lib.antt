@@ -1,2 +1,2 @@
 pub mod Service
-pub mod Depths
+pub mod Inner

@@ -2,12 +2,10 @@
 use Prim.Native.Nat.{ℕ, zero, suc}
 use mathlib.Core.List.{List, [], _∷_}
 use lib.ListN.{length}
-use Rattle.fields.specs.Fields.{encoded}
 use Rattle.fields.specs.Refusals.{firstNo}
 use Rattle.table.specs.Table.{tableRefusal}
 use Rattle.netlist.specs.Netlist.{Netlist, fileOf}
-use Rattle.netlist.specs.Questions.{roomOf, roomNumber}
-use Rattle.simulation.specs.Service.{over}
+use Rattle.files.specs.Room.{over, roomOf, roomNumber}
 use Rattle.synthesis.specs.declared.service.Checked.{Checked}
 use Rattle.rules.specs.Board.{tableBoard, depthOf}
 
@@ -26,12 +24,6 @@ checkedOr (suc k) net = record { refusal = suc k; contacts = 0; outputs = 0; gat
 unfoldable pub checkedOf : List ℕ → Checked
 checkedOf table = checkedOr (tableRefusal table) (tableBoard table)
 
--- The file of a netlist of n contacts whose gates and pairs have these bytes.
-unfoldable pub fileWith : ℕ → List ℕ → List ℕ → List ℕ
-fileWith n gates pairs =
-    encoded
-    (record { tag = 1; value = n ∷ [] } ∷ record { tag = 4; value = gates } ∷ record { tag = 5; value = pairs } ∷ [])
-
 -- What build returns, and what it leaves in the lent buffer.
 pub record Building : Type 0 where
   pub refusal : ℕ
@@ -48,10 +40,6 @@ abbrev pub buildingOr : ℕ → Netlist → List ℕ → Building
 buildingOr zero net buffer =
     record { refusal = 0; length = lib.ListN.length (fileOf net); file = over (fileOf net) buffer }
 buildingOr (suc k) net buffer = record { refusal = suc k; length = 0; file = buffer }
-
--- What build leaves of a board once the table has its yes: question 9, then the file.
-abbrev pub writingOf : Netlist → List ℕ → Building
-writingOf net buffer = buildingOr (roomNumber (roomOf (length (fileOf net)) (length buffer))) net buffer
 
 unfoldable pub buildingOf : List ℕ → List ℕ → Building
 buildingOf table buffer = buildingOr (buildRefusal table (length buffer)) (tableBoard table) buffer

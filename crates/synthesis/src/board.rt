@@ -6,31 +6,33 @@ ghost use mathlib.Core.List.{flatMap};
 ghost use Prim.Native.Nat.{_*_, _≤_, _<_};
 ghost use lib.ListN.{length};
 ghost use lib.Seq.{sets};
-ghost use Rattle.diagram.specs.Diagram.{width};
 ghost use Rattle.diagram.specs.Questions.{Sized, inRange};
-ghost use Rattle.netlist.specs.Netlist.{gateBytes, pairBytes, listed};
+ghost use Rattle.netlist.specs.Netlist.{gateBytes, pairBytes};
+ghost use Rattle.fields.specs.Bounded.{listed};
 ghost use Rattle.rules.specs.Board.{pairOf, boardOf};
-ghost use Rattle.products.specs.Cells.{matrixOf};
+ghost use Rattle.products.specs.Inner.Cells.{matrixOf};
 
 // Writes each output's true line and false line: columns 1 and 0 of its node's row.
 fn put_pairs(d: Diagram, cells: &[u16], pairs: &mut [u8])
     requires { ⌜ Sized d × (inRange d ≡ true) × (64 ≤ length (now cells)) × (4 * d .outputs ≤ length (now pairs)) ⌝ }
-    ensures { λ _. ⌜ now (pairs .exit) ≡ sets (now (pairs .entry)) 0 (flatMap pairBytes (listed (pairOf d (matrixOf (now (cells .entry)))) (d .outputs) 0)) ⌝ }
+    ensures { λ _. ⌜ now (pairs .exit)
+        ≡ sets (now (pairs .entry)) 0 (flatMap pairBytes (listed (pairOf d (matrixOf (now (cells .entry)))) (d .outputs) 0)) ⌝ }
 {
     let roots = d.roots;
     for j in 0..d.outputs {
         let node = roots[j] as usize;
         let on = cells[8 * node + 1];
         let off = cells[8 * node];
-        gates::put_number(pairs, 4 * j, on);
-        gates::put_number(pairs, 4 * j + 2, off);
+        files::put_number(pairs, 4 * j, on);
+        files::put_number(pairs, 4 * j + 2, off);
     }
 }
 
 // Writes the gates of a diagram's board, five bytes each, and its pairs, four bytes each, from the start of each buffer, and returns
 // the number of gates.
 pub fn synthesise(d: Diagram, out: &mut [u8], pairs: &mut [u8]) -> usize
-    requires { ⌜ Sized d × (inRange d ≡ true) × (5 * length (boardOf d .gates) ≤ length (now out)) × (4 * d .outputs ≤ length (now pairs)) ⌝ }
+    requires { ⌜ Sized d × (inRange d ≡ true) ×
+        (5 * length (boardOf d .gates) ≤ length (now out)) × (4 * d .outputs ≤ length (now pairs)) ⌝ }
     ensures { λ r. ⌜ r ≡ length (boardOf d .gates) ⌝ }
     ensures { λ _. ⌜ now (out .exit) ≡ sets (now (out .entry)) 0 (flatMap gateBytes (boardOf d .gates)) ⌝ }
     ensures { λ _. ⌜ now (pairs .exit) ≡ sets (now (pairs .entry)) 0 (flatMap pairBytes (boardOf d .pairs)) ⌝ }

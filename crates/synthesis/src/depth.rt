@@ -3,9 +3,10 @@ ghost use mathlib.Core.Path.{_≡_};
 ghost use mathlib.Core.List.{[]};
 ghost use Prim.Native.Nat.{_+_, _*_, _≤_, max};
 ghost use lib.ListN.{length, take, replicate};
-ghost use Rattle.netlist.specs.Netlist.{gateAt, listed};
+ghost use Rattle.netlist.specs.Netlist.{gateAt, netWith};
+ghost use Rattle.fields.specs.Bounded.{listed};
 ghost use Rattle.rules.specs.Board.{largest, depthOf};
-ghost use Rattle.synthesis.specs.Depths.{depthsFrom, Sourced};
+ghost use Rattle.synthesis.specs.Inner.Depths.{depthsFrom, SourcesBelow};
 
 fn larger(a: u16, b: u16) -> u16
     ensures { λ r. ⌜ r ≡ max a b ⌝ }
@@ -15,8 +16,9 @@ fn larger(a: u16, b: u16) -> u16
 
 // Works out the depths of the gates, whose lines go from `first` up, and returns the largest.
 fn scan(gates: &[u8], count: usize, first: usize, depths: &mut [u16]) -> u16
-    requires { ⌜ (count ≤ 65535) × (5 * count ≤ length (now gates)) × (first + count ≤ length (now depths)) × (take first (now depths) ≡ replicate first 0) ⌝ }
-    requires { ⌜ Sourced (now gates) first count ⌝ }
+    requires { ⌜ (count ≤ 65535) × (5 * count ≤ length (now gates)) × (first + count ≤ length (now depths))
+        × (take first (now depths) ≡ replicate first 0) ⌝ }
+    requires { ⌜ SourcesBelow (now gates) first count ⌝ }
     ensures { λ r. ⌜ r ≡ largest (depthsFrom (now (gates .entry)) first count) ⌝ }
 {
     let mut deepest: u16 = 0;
@@ -35,8 +37,8 @@ fn scan(gates: &[u8], count: usize, first: usize, depths: &mut [u16]) -> u16
 // The depth of a netlist of n contacts whose gates stand in count times five bytes.
 pub fn depth_of(gates: &[u8], count: usize, n: usize) -> usize
     requires { ⌜ (n ≤ 12) × (count ≤ 10560) × (5 * count ≤ length (now gates)) ⌝ }
-    requires { ⌜ Sourced (now gates) (2 + 2 * n) count ⌝ }
-    ensures { λ r. ⌜ r ≡ depthOf (record { contacts = n; gates = listed (gateAt (now (gates .entry))) count 0; pairs = [] }) ⌝ }
+    requires { ⌜ SourcesBelow (now gates) (2 + 2 * n) count ⌝ }
+    ensures { λ r. ⌜ r ≡ depthOf (netWith n (listed (gateAt (now (gates .entry))) count 0) []) ⌝ }
 {
     if count <= 1974 {
         let mut few = [0u16; 2_000];

@@ -1,12 +1,10 @@
 // From a diagram to its two-rail netlist, gate for gate.
 mod board;
 mod depth;
-mod file;
 mod service;
 
 pub use board::most_gates;
 pub use board::synthesise;
-pub use file::put_file;
 pub use service::Built;
 pub use service::Checked;
 pub use service::build;

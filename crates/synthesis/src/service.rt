@@ -1,16 +1,16 @@
 // The services check and build.
 use crate::board;
 use crate::depth;
-use crate::file;
 use diagram::Diagram;
-use netlist::Room;
+use files::Room;
 ghost use mathlib.Core.Path.{_≡_};
 ghost use mathlib.Core.Bool.{true};
 ghost use Prim.Native.Nat.{_*_, _≤_};
 ghost use lib.ListN.{length};
 ghost use Rattle.diagram.specs.Questions.{Sized, inRange};
 ghost use Rattle.rules.specs.Board.{boardOf};
-ghost use Rattle.synthesis.specs.Service.{checkedOr, checkedOf, writingOf, buildingOf};
+ghost use Rattle.synthesis.specs.Service.{checkedOr, checkedOf, buildingOf};
+ghost use Rattle.synthesis.specs.Inner.Writing.{writingOf};
 
 // What check returns: a table's contacts and outputs and its netlist's gates and depth, or the refusal.
 #[repr(C)]
@@ -90,18 +90,17 @@ fn refused(number: u32) -> Built
 // to a buffer of their own.
 fn write(d: Diagram, gates: &mut [u8], file: &mut [u8]) -> Built
     requires { ⌜ Sized d × (inRange d ≡ true) × (5 * length (boardOf d .gates) ≤ length (now gates)) ⌝ }
-    ensures { λ r. ⌜ r .refusal ≡ writingOf (boardOf d) (now (file .entry)) .refusal ⌝ }
-    ensures { λ r. ⌜ r .length ≡ writingOf (boardOf d) (now (file .entry)) .length ⌝ }
-    ensures { λ _. ⌜ now (file .exit) ≡ writingOf (boardOf d) (now (file .entry)) .file ⌝ }
+    ensures { λ r. ⌜ record { refusal = r .refusal; length = r .length; file = now (file .exit) }
+        ≡ writingOf (boardOf d) (now (file .entry)) ⌝ }
 {
     let mut pairs = [0u8; 32];
     let gate_bytes = 5 * board::synthesise(d, gates, &mut pairs);
     let pair_bytes = 4 * d.outputs;
     let length = 10 + gate_bytes + pair_bytes;
-    let Room::Enough = netlist::ask_room(length, file.len()) else {
+    let Room::Enough = files::ask_room(length, file.len()) else {
         return refused(9);
     };
-    file::put_file(file, d.contacts, &gates[..gate_bytes], &pairs[..pair_bytes]);
+    netlist::put_file(file, d.contacts, &gates[..gate_bytes], &pairs[..pair_bytes]);
     Built {
         refusal: 0,
         length: length as u32,
@@ -111,9 +110,8 @@ fn write(d: Diagram, gates: &mut [u8], file: &mut [u8]) -> Built
 // Writes the file of a table's netlist from the start of the lent buffer and returns its length; a refusal leaves the buffer as it
 // came. The buffer for the gates is as in check.
 pub fn build(table: &[u8], file: &mut [u8]) -> Built
-    ensures { λ r. ⌜ r .refusal ≡ buildingOf (now (table .entry)) (now (file .entry)) .refusal ⌝ }
-    ensures { λ r. ⌜ r .length ≡ buildingOf (now (table .entry)) (now (file .entry)) .length ⌝ }
-    ensures { λ _. ⌜ now (file .exit) ≡ buildingOf (now (table .entry)) (now (file .entry)) .file ⌝ }
+    ensures { λ r. ⌜ record { refusal = r .refusal; length = r .length; file = now (file .exit) }
+        ≡ buildingOf (now (table .entry)) (now (file .entry)) ⌝ }
 {
     let read = table::read(table);
     let refusal = read.refusal;

@@ -20,7 +20,7 @@ use Rattle.diagram.specs.Questions.{Sized, inRange, distinct, numbered, branchi
 use Rattle.table.specs.Table.{outputsIn, areLevels, diagramIn, rangeNumber, twinsNumber, numberingNumber, branchingNumber, fieldsRefusal, diagramRefusal, tableRefusal}
 use Rattle.table.proofs.Shaped.{shaped, sized}
 
-pub record Accepted (file : List ℕ) : Type 0 where
+pub record AcceptedTable (file : List ℕ) : Type 0 where
   pub framing : fieldsOf file .framing ≡ Whole
   pub contacts : contactsIn (fieldsOf file .items) ≡ Counted (diagramIn file .contacts)
   pub outputs : outputsIn (drop 1 (fieldsOf file .items)) ≡ Listed (diagramIn file .outputs)
@@ -63,7 +63,7 @@ sound d z = go (inRange d) (distinct d) (numbered d) (branching d) refl refl ref
     go true true true false p q r s z = absurd (omega arith)
     go true true true true p q r s z = record { ranged = p; differing = q; counted = r; forking = s }
 
-pub accepted : (file : List ℕ) → tableRefusal file ≡ 0 → Accepted file
+pub accepted : (file : List ℕ) → tableRefusal file ≡ 0 → AcceptedTable file
 unfolding tableRefusal
 accepted file z =
     let none = first-none (fieldsRefusal file) (diagramRefusal (diagramIn file)) z in

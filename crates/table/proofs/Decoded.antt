@@ -3,8 +3,9 @@ use Prim.Native.Nat.{ℕ, _+_, _*_, _/_, _≤_, _<_, min}
 use native.Mathlib.Omega.{arith}
 use mathlib.Core.Path.{_≡_, refl, sym, ap, ap₂, _∙_}
 use mathlib.Core.List.{List, [], _∷_, _++_, map, flatMap, append-nil, append-assoc, map-append}
-use lib.ListN.{length, getD, set, drop, replicate, length-append, length-map, length-replicate}
+use lib.ListN.{length, set, drop, replicate, length-append, length-map, length-replicate}
 use lib.Seq.{paste}
+use Rattle.files.specs.Header.{contactsOf}
 use Rattle.fields.specs.Fields.{Item, valueIn}
 use Rattle.fields.proofs.Parts.{flat-append}
 use Rattle.table.specs.Table.{padded, levelsOf, diagramOf}
@@ -92,7 +93,7 @@ module _ {ls : List (List ℕ)} {level : ℕ} {m : List Item} {widths edges : Li
             ∙ ap (padded 192) (sym (flat-append (padded 16) p (values m)) ∙ ap (flatMap (padded 16)) (sym (s .split))),
       )
 
-pub diagram-is : (is : List Item) {contacts outputs : ℕ} {roots widths edges : List ℕ} → contacts ≡ getD (valueIn is 0) 0 0 →
+pub diagram-is : (is : List Item) {contacts outputs : ℕ} {roots widths edges : List ℕ} → contacts ≡ contactsOf is →
     outputs ≡ length (valueIn is 1) → roots ≡ padded 8 (valueIn is 1) →
     (widths ≡ padded 12 (map half (levelsOf is))) × (edges ≡ padded 192 (flatMap (padded 16) (levelsOf is))) →
     record { contacts = contacts; outputs = outputs; roots = roots; widths = widths; edges = edges } ≡ diagramOf is

@@ -3,16 +3,15 @@ use Prim.Native.Nat.{ℕ, suc, _+_, _-_, _≤_, _<_}
 use native.Mathlib.Nat.{sub-zero}
 use native.Mathlib.Omega.{arith}
 use mathlib.Core.Path.{_≡_, sym, ap, _∙_}
-use mathlib.Core.Bool.{Bool, true, false, _&&_, cond}
+use mathlib.Core.Bool.{Bool, true, false, cond}
 use mathlib.Core.List.{List, [], _∷_}
-use lib.Dec.{eqb}
 use lib.ListN.{length, drop}
 use Rattle.fields.specs.Fields.{Item, Fields, fieldsFrom, fieldsOf}
-use Rattle.fields.specs.Refusals.{between}
 use Rattle.fields.proofs.Steps.{from-start}
+use Rattle.files.specs.Header.{hasParts}
 use Rattle.table.specs.declared.fit.Outputs.the-variants.{Listed, Unlisted}
 use Rattle.table.specs.declared.fit.Levels.the-variants.{Given, Lacking}
-use Rattle.table.specs.Table.{outputsIn, isLevel, areLevels, levelsIn}
+use Rattle.table.specs.Table.{outputsIn, areLevels, levelsIn}
 
 -- What a cursor that skipped k fields from the start has before it.
 pub skipped : (file : List ℕ) (k : ℕ) {at : ℕ} {m : List Item} → at ≡ 0 → m ≡ drop k (fieldsFrom file at .items) →
@@ -25,10 +24,10 @@ module _ {l : List Item} where
   unfolding outputsIn
   no-outputs e d = rw (← e, d)
 
-  pub outputs-by : {m r : List Item} {i : Item} → m ≡ l → m ≡ i ∷ r → {v : List ℕ} → v ≡ i .value → (b : Bool) →
-      (eqb (i .tag) 2 && between 1 (length v) 8) ≡ b → cond b (Listed (length v)) Unlisted ≡ outputsIn l
+  pub outputs-by : {m r : List Item} {i : Item} → m ≡ l → m ≡ i ∷ r → (b : Bool) → hasParts 2 1 1 8 i ≡ b →
+      cond b (Listed (length (i .value))) Unlisted ≡ outputsIn l
   unfolding outputsIn
-  outputs-by e d w b t = rw (← e, d, ← w, ← t)
+  outputs-by e d b t = rw (← e, d, ← t)
 
 left : (n k : ℕ) → k < n → n - k ≡ suc (n - (k + 1))
 left n k h = omega arith
@@ -38,22 +37,22 @@ none-left n k h = omega arith
 
 -- Question 4, asked of n and the fields l, where k of them are levels and m is what is left.
 module _ (n : ℕ) (l : List Item) where
-  abbrev pub Passed : ℕ → List Item → Type 0
-  Passed k m = areLevels n l ≡ areLevels (n - k) m
+  abbrev pub PassedLevels : ℕ → List Item → Type 0
+  PassedLevels k m = areLevels n l ≡ areLevels (n - k) m
 
-  pub passed-none : {m : List Item} → m ≡ l → Passed 0 m
+  pub passed-none : {m : List Item} → m ≡ l → PassedLevels 0 m
   passed-none e = rw (sub-zero n, e)
 
   answer : (b : Bool) → areLevels n l ≡ b → cond b Given Lacking ≡ levelsIn n l
   answer b e = ap (λ (t : Bool). cond t Given Lacking) (sym e)
 
-  module _ (k : ℕ) (m : List Item) (p : Passed k m) where
+  module _ (k : ℕ) (m : List Item) (p : PassedLevels k m) where
     module _ (h : k < n) where
-      pub passed-one : {i : Item} {r : List Item} → m ≡ i ∷ r → isLevel (i .tag) (length (i .value)) ≡ true → Passed (k + 1) r
+      pub passed-one : {i : Item} {r : List Item} → m ≡ i ∷ r → hasParts 3 2 1 8 i ≡ true → PassedLevels (k + 1) r
       unfolding areLevels
       passed-one d t = p ∙ rw (left n k h, d, t)
 
-      pub not-level : {i : Item} {r : List Item} → m ≡ i ∷ r → isLevel (i .tag) (length (i .value)) ≡ false → Lacking ≡ levelsIn n l
+      pub not-level : {i : Item} {r : List Item} → m ≡ i ∷ r → hasParts 3 2 1 8 i ≡ false → Lacking ≡ levelsIn n l
       unfolding areLevels
       not-level d t = answer false (p ∙ rw (left n k h, d, t))
 

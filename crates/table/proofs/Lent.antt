@@ -5,9 +5,10 @@ use mathlib.Core.Path.{_≡_, refl}
 use mathlib.Core.List.{List}
 use lib.ListN.{length}
 use Rattle.fields.specs.Fields.{Item, fieldsOf, valueIn}
-use Rattle.diagram.specs.Lent.{Fit, HasLevels, HasOutputs}
+use Rattle.diagram.specs.Inner.Lent.{Fit, HasLevels, HasOutputs}
 use Rattle.diagram.proofs.Asked.{fit}
-use Rattle.table.specs.Table.{contactsOf, rootsOf, widthsOf, edgesOf, diagramOf, fieldsRefusal}
+use Rattle.table.specs.Table.{rootsOf, widthsOf, edgesOf, diagramOf, fieldsRefusal}
+use Rattle.files.specs.Header.{contactsOf}
 use Rattle.table.proofs.Padded.{length-padded}
 use Rattle.table.proofs.Shaped.{shaped, sized}
 

@@ -2,12 +2,12 @@
 use Prim.Native.Nat.{ℕ}
 use mathlib.Core.Path.{_≡_}
 use mathlib.Core.List.{List, [], _∷_}
-use lib.ListN.{getD, drop}
+use lib.ListN.{drop}
 use Rattle.fields.specs.declared.Framing.{Framing}
-use Rattle.fields.specs.Fields.{fieldsOf, valueIn}
+use Rattle.fields.specs.Fields.{fieldsOf}
 use Rattle.fields.specs.Refusals.{framingNumber, firstNo}
 use Rattle.files.specs.declared.header.Contacts.{Contacts}
-use Rattle.files.specs.Header.{contactsIn, contactsNumber}
+use Rattle.files.specs.Header.{contactsOf, contactsIn, contactsNumber}
 use Rattle.diagram.specs.declared.Diagram.{Diagram}
 use Rattle.table.specs.declared.fit.Outputs.{Outputs}
 use Rattle.table.specs.declared.fit.Levels.{Levels}
@@ -20,7 +20,7 @@ use Rattle.table.specs.Table.{outputsIn, outputsNumber, levelsIn, levels
 
 pub fields-by : (file : List ℕ) (a : Framing) (b : Contacts) (c : Outputs) (e : Levels) →
     let is = fieldsOf file .items in
-    fieldsOf file .framing ≡ a → contactsIn is ≡ b → outputsIn (drop 1 is) ≡ c → levelsIn (getD (valueIn is 0) 0 0) (drop 2 is) ≡ e →
+    fieldsOf file .framing ≡ a → contactsIn is ≡ b → outputsIn (drop 1 is) ≡ c → levelsIn (contactsOf is) (drop 2 is) ≡ e →
     firstNo (framingNumber a ∷ contactsNumber b ∷ outputsNumber c ∷ levelsNumber e ∷ []) ≡ fieldsRefusal file
 unfolding fieldsRefusal
 fields-by file a b c e p q r s = cc

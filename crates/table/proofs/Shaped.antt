@@ -11,18 +11,18 @@ use Rattle.fields.specs.Fields.{Item, fieldsOf}
 use Rattle.fields.specs.Refusals.{framingNumber, firstNo}
 use Rattle.files.specs.declared.header.Contacts.{Contacts}
 use Rattle.files.specs.declared.header.Contacts.the-variants.{Counted, Uncounted}
-use Rattle.files.specs.Header.{contactsIn, contactsNumber}
+use Rattle.files.specs.Header.{contactsIn, contactsNumber, contactsOf}
 use Rattle.diagram.specs.declared.Diagram.{Diagram}
 use Rattle.table.specs.declared.fit.Outputs.{Outputs}
 use Rattle.table.specs.declared.fit.Outputs.the-variants.{Listed, Unlisted}
 use Rattle.table.specs.declared.fit.Levels.the-variants.{Given, Lacking}
 use Rattle.diagram.specs.Questions.{Sized}
-use Rattle.table.specs.Table.{outputsIn, outputsNumber, areLevels, levelsNumber, contactsOf, diagramOf, fieldsRefusal}
+use Rattle.table.specs.Table.{outputsIn, outputsNumber, areLevels, levelsNumber, diagramOf, fieldsRefusal}
 use Rattle.diagram.proofs.Asked.{width-is}
 use Rattle.table.proofs.Laid.{value-at, width-of}
 use Rattle.table.proofs.Decoded.{half}
 use Rattle.files.proofs.Heads.{counted}
-use Rattle.table.proofs.Heads.{listed, value-one, level-at}
+use Rattle.table.proofs.Heads.{lists, value-one, level-at}
 
 pub record Shaped (file : List ℕ) (d : Diagram) : Type 0 where
   pub framing : fieldsOf file .framing ≡ Whole
@@ -52,7 +52,7 @@ shaped file z = go (fieldsOf file .framing) (contactsIn is) (outputsIn (drop 1 i
         record {
           framing = p;
           contacts = q ∙ ap Counted (sym (ap contactsOf (counted is k q .split)));
-          outputs = r ∙ ap Listed (sym (listed (drop 1 is) m r .count) ∙ ap length (value-one is));
+          outputs = r ∙ ap Listed (sym (lists (drop 1 is) m r .count) ∙ ap length (value-one is));
           levels = s;
         }
 
@@ -61,7 +61,7 @@ sized file s =
     let is = fieldsOf file .items in
     let d = diagramOf is in
     let n = counted is (d .contacts) (s .contacts) in
-    let m = listed (drop 1 is) (d .outputs) (s .outputs) in
+    let m = lists (drop 1 is) (d .outputs) (s .outputs) in
     record {
       contacts = (n .low, n .high);
       outputs = (m .low, m .high);

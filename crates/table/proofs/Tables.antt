@@ -3,11 +3,16 @@ use Prim.Native.Nat.{ℕ, zero, suc, _^_, _≤_, _<_}
 use mathlib.Core.Path.{_≡_, refl, sym, ap, ap₂, _∙_}
 use mathlib.Core.List.{List, [], _∷_}
 use borrow.Author.Tests.{lt-ltb, le-ltb}
+use mathlib.Core.Bool.{cond}
+use lib.Dec.{ltb}
+use Rattle.table.specs.declared.reading.Table.{Table}
 use Rattle.fields.specs.Refusals.{firstNo}
+use Rattle.fields.proofs.Refusals.{first-no}
 use Rattle.diagram.specs.declared.Diagram.{Diagram}
 use Rattle.diagram.specs.Diagram.{inputOf, wordAt}
-use Rattle.table.specs.Table.{diagramIn, fieldsRefusal, diagramRefusal, tableRefusal, refusedTable, tableOr, tableOf, refusedReading, readingOr}
-use Rattle.table.proofs.Accepted.{Accepted, accepted}
+use Rattle.table.specs.Table.{diagramIn, fieldsRefusal, diagramRefusal, tableRefusal, readRefusal, readingOr, readingOf}
+use Rattle.table.specs.Inner.Read.{refusedTable, tableOr, tableOf}
+use Rattle.table.proofs.Accepted.{AcceptedTable, accepted}
 
 table-or : (k : ℕ) (d : Diagram) → (k ≡ 0 → ⊥) → refusedTable k ≡ tableOr k d
 table-or zero d h = absurd (h refl)
@@ -17,10 +22,9 @@ refusal-or : (k : ℕ) (d : Diagram) → tableOr k d .refusal ≡ k
 refusal-or zero d = refl
 refusal-or (suc k) d = refl
 
-first-no : (k : ℕ) (ks : List ℕ) → (k ≡ 0 → ⊥) → k ≡ firstNo (k ∷ ks)
-unfolding firstNo
-first-no zero ks h = absurd (h refl)
-first-no (suc k) ks h = refl
+reading-or : (k : ℕ) (d : Diagram) (a : ℕ) → (k ≡ 0 → ⊥) → record { refusal = k; word = 0 } ≡ readingOr k d a
+reading-or zero d a h = absurd (h refl)
+reading-or (suc k) d a h = refl
 
 module _ (file : List ℕ) where
   refusal-by : (j k : ℕ) → j ≡ fieldsRefusal file → k ≡ diagramRefusal (diagramIn file) → firstNo (j ∷ k ∷ []) ≡ tableRefusal file
@@ -30,13 +34,13 @@ module _ (file : List ℕ) where
   pub table-by-fields : (k : ℕ) → k ≡ fieldsRefusal file → (k ≡ 0 → ⊥) → refusedTable k ≡ tableOf file
   unfolding tableOf
   table-by-fields k e h =
-      table-or k (diagramIn file) h ∙ ap (λ (n : ℕ). tableOr n (diagramIn file)) (first-no k _ h ∙ refusal-by k _ e refl)
+      table-or k (diagramIn file) h ∙ ap (λ (n : ℕ). tableOr n (diagramIn file)) (sym (first-no k _ h) ∙ refusal-by k _ e refl)
 
   pub table-by-diagram : (k : ℕ) → 0 ≡ fieldsRefusal file → k ≡ diagramRefusal (diagramIn file) → (k ≡ 0 → ⊥) →
       refusedTable k ≡ tableOf file
   unfolding tableOf firstNo
   table-by-diagram k z e h =
-      table-or k (diagramIn file) h ∙ ap (λ (n : ℕ). tableOr n (diagramIn file)) (first-no k [] h ∙ refusal-by 0 k z e)
+      table-or k (diagramIn file) h ∙ ap (λ (n : ℕ). tableOr n (diagramIn file)) (sym (first-no k [] h) ∙ refusal-by 0 k z e)
 
   pub table-by-none : 0 ≡ fieldsRefusal file → 0 ≡ diagramRefusal (diagramIn file) → tableOr 0 (diagramIn file) ≡ tableOf file
   unfolding tableOf firstNo
@@ -47,22 +51,37 @@ module _ (file : List ℕ) where
   table-refusal = refusal-or (tableRefusal file) (diagramIn file)
 
   -- A table that is not refused is accepted, and its diagram is that of the fields.
-  pub table-accepted : tableOf file .refusal ≡ 0 → Accepted file
+  pub table-accepted : tableOf file .refusal ≡ 0 → AcceptedTable file
   table-accepted e = accepted file (sym table-refusal ∙ e)
 
   pub table-diagram : tableOf file .refusal ≡ 0 → tableOf file .diagram ≡ diagramIn file
   unfolding tableOf
   table-diagram e = ap (λ (k : ℕ). tableOr k (diagramIn file) .diagram) (sym table-refusal ∙ e)
 
--- A reading, by the table's refusal k.
-pub reading-refused : (k : ℕ) (d : Diagram) (a : ℕ) → (k ≡ 0 → ⊥) → refusedReading k ≡ readingOr k d a
-reading-refused zero d a h = absurd (h refl)
-reading-refused (suc k) d a h = refl
+-- A reading, by what reading the table gives.
+module _ (file : List ℕ) {t : Table} (e : t ≡ tableOf file) (a : ℕ) where
+  refusal-is : t .refusal ≡ tableRefusal file
+  refusal-is = ap (λ (t : Table). t .refusal) e ∙ table-refusal file
 
-module _ (k : ℕ) (d : Diagram) (a : ℕ) (e : k ≡ 0) where
-  pub reading-outside : 2 ^ d .contacts ≤ a → refusedReading 10 ≡ readingOr k d a
-  reading-outside h = rw (e, le-ltb _ _ h)
+  pub reading-refused : (t .refusal ≡ 0 → ⊥) → record { refusal = t .refusal; word = 0 } ≡ readingOf file a
+  unfolding readingOf readRefusal
+  reading-refused h =
+      reading-or (t .refusal) (diagramIn file) a h
+      ∙ ap (λ (k : ℕ). readingOr k (diagramIn file) a)
+      (sym (ap (λ (k : ℕ). firstNo (k ∷ cond (ltb a (2 ^ diagramIn file .contacts)) 0 10 ∷ [])) (sym refusal-is) ∙ first-no (t .refusal) _ h))
 
-  pub reading-inside : a < 2 ^ d .contacts → {w : ℕ} → w ≡ wordAt d (inputOf a) (d .outputs) →
-      record { refusal = 0; word = w } ≡ readingOr k d a
-  reading-inside h f = rw (e, lt-ltb _ _ h, f)
+  module _ (z : t .refusal ≡ 0) where
+    yes! : tableRefusal file ≡ 0
+    yes! = sym refusal-is ∙ z
+
+    its-diagram : t .diagram ≡ diagramIn file
+    its-diagram = ap (λ (t : Table). t .diagram) e ∙ table-diagram file (sym (ap (λ (t : Table). t .refusal) e) ∙ z)
+
+    pub reading-outside : 2 ^ t .diagram .contacts ≤ a → record { refusal = 10; word = 0 } ≡ readingOf file a
+    unfolding readingOf readRefusal firstNo
+    reading-outside h = rw (yes!, le-ltb _ _ (rw its-diagram at h))
+
+    pub reading-inside : a < 2 ^ t .diagram .contacts → {w : ℕ} → w ≡ wordAt (t .diagram) (inputOf a) (t .diagram .outputs) →
+        record { refusal = 0; word = w } ≡ readingOf file a
+    unfolding readingOf readRefusal firstNo
+    reading-inside h f = rw (yes!, lt-ltb _ _ (rw its-diagram at h), f, its-diagram)

@@ -28,7 +28,7 @@ module _ (file : List ℕ) (z : fieldsRefusal file ≡ 0) where
   even l = go (decLt l (diagramIn file .contacts))
     where
       go : Dec (l < diagramIn file .contacts) → length (getD (levelsOf is) l []) % 2 ≡ 0
-      go (yes h) = ap (λ (v : List ℕ). length v % 2) (value-at (drop 2 is) l) ∙ level-at _ (drop 2 is) (shaped file z .levels) l h .even
+      go (yes h) = ap (λ (v : List ℕ). length v % 2) (value-at (drop 2 is) l) ∙ level-at _ (drop 2 is) (shaped file z .levels) l h .1 .whole
       go (no h) =
           ap (λ (v : List ℕ). length v % 2) (List·getD-eq-default (levelsOf is) [] (omega (arith, level-count-is)))
 

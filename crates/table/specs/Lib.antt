@@ -1,3 +1,4 @@
 pub mod Table
 pub mod Encode
 pub mod Promises
+pub mod Inner

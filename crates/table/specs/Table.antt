@@ -1,12 +1,12 @@
 -- A table file: questions 3 and 4 about its fields, the diagram that it holds, and the first question that it fails.
-use Prim.Native.Nat.{ℕ, zero, suc, _/_, _%_, _^_}
+use Prim.Native.Nat.{ℕ, zero, suc, _/_, _^_}
 use mathlib.Core.Bool.{Bool, true, false, _&&_, cond}
 use mathlib.Core.List.{List, [], _∷_, map, flatMap}
-use lib.Dec.{ltb, eqb}
-use lib.ListN.{length, getD, drop, replicate}
+use lib.Dec.{ltb}
+use lib.ListN.{length, drop}
 use Rattle.fields.specs.Fields.{Item, fieldsOf, valueIn}
-use Rattle.fields.specs.Refusals.{between, framingNumber, firstNo}
-use Rattle.files.specs.Header.{contactsIn, contactsNumber}
+use Rattle.fields.specs.Refusals.{framingNumber, firstNo}
+use Rattle.files.specs.Header.{contactsIn, contactsNumber, contactsOf, hasParts}
 use Rattle.diagram.specs.declared.Diagram.{Diagram}
 use Rattle.table.specs.declared.fit.Outputs.{Outputs}
 use Rattle.table.specs.declared.fit.Outputs.the-variants.{Listed, Unlisted}
@@ -20,7 +20,6 @@ use Rattle.diagram.specs.declared.sound.Numbering.{Numbering}
 use Rattle.diagram.specs.declared.sound.Numbering.the-variants.{InTurn, OutOfTurn}
 use Rattle.diagram.specs.declared.sound.Branching.{Branching}
 use Rattle.diagram.specs.declared.sound.Branching.the-variants.{Throughout, Missing}
-use Rattle.table.specs.declared.reading.Table.{Table}
 use Rattle.table.specs.declared.reading.Reading.{Reading}
 use Rattle.diagram.specs.Diagram.{inputOf, wordAt}
 use Rattle.diagram.specs.Questions.{rangeOf, twinsOf, numberingOf, branchingOf}
@@ -53,18 +52,13 @@ branchingNumber Missing = 8
 -- 3. Is the second tag 2, length 1 to 8? (Asked of the fields from the second on.)
 unfoldable pub outputsIn : List Item → Outputs
 outputsIn [] = Unlisted
-outputsIn (i ∷ is) =
-    let m = length (i .value) in
-    cond (eqb (i .tag) 2 && between 1 m 8) (Listed m) Unlisted
-
-abbrev pub isLevel : ℕ → ℕ → Bool
-isLevel tag len = eqb tag 3 && eqb (len % 2) 0 && between 2 len 16
+outputsIn (i ∷ is) = cond (hasParts 2 1 1 8 i) (Listed (length (i .value))) Unlisted
 
 unfoldable pub areLevels : ℕ → List Item → Bool
 areLevels zero [] = true
 areLevels zero (i ∷ is) = false
 areLevels (suc n) [] = false
-areLevels (suc n) (i ∷ is) = isLevel (i .tag) (length (i .value)) && areLevels n is
+areLevels (suc n) (i ∷ is) = hasParts 3 2 1 8 i && areLevels n is
 
 -- 4. Do exactly n fields of tag 3 follow and no others, each of even length 2 to 16? (Asked of the fields from the third on.)
 abbrev pub levelsIn : ℕ → List Item → Levels
@@ -80,10 +74,7 @@ padded (suc n) (x ∷ xs) = x ∷ padded n xs
 abbrev pub levelsOf : List Item → List (List ℕ)
 levelsOf is = map (λ (i : Item). i .value) (drop 2 is)
 
--- What the fields hold: the count of contacts, the outputs' nodes, and each level's width and edges, two bytes for each node.
-abbrev pub contactsOf : List Item → ℕ
-contactsOf is = getD (valueIn is 0) 0 0
-
+-- What the fields hold besides the count of contacts: the outputs' nodes, and each level's width and edges, two bytes for each node.
 abbrev pub rootsOf : List Item → List ℕ
 rootsOf is = padded 8 (valueIn is 1)
 
@@ -125,27 +116,14 @@ diagramRefusal d =
 unfoldable pub tableRefusal : List ℕ → ℕ
 tableRefusal file = firstNo (fieldsRefusal file ∷ diagramRefusal (diagramIn file) ∷ [])
 
-abbrev pub noDiagram : Diagram
-noDiagram = record { contacts = 0; outputs = 0; roots = replicate 8 0; widths = replicate 12 0; edges = replicate 192 0 }
+-- The table's questions, then 10. Is a below 2^n?
+unfoldable pub readRefusal : List ℕ → ℕ → ℕ
+readRefusal file a = firstNo (tableRefusal file ∷ cond (ltb a (2 ^ diagramIn file .contacts)) 0 10 ∷ [])
 
--- What reading a table gives: the diagram, or the refusal with every other result zero.
-abbrev pub refusedTable : ℕ → Table
-refusedTable number = record { refusal = number; diagram = noDiagram }
-
-abbrev pub tableOr : ℕ → Diagram → Table
-tableOr zero d = record { refusal = 0; diagram = d }
-tableOr (suc k) d = refusedTable (suc k)
-
-unfoldable pub tableOf : List ℕ → Table
-tableOf file = tableOr (tableRefusal file) (diagramIn file)
-
--- 10. Is a below 2^n? Then the word of the outputs at input a.
-abbrev pub refusedReading : ℕ → Reading
-refusedReading number = record { refusal = number; word = 0 }
-
+-- Read-off returns the word of the outputs at input a, or the refusal with the word zero.
 abbrev pub readingOr : ℕ → Diagram → ℕ → Reading
-readingOr zero d a = cond (ltb a (2 ^ d .contacts)) (record { refusal = 0; word = wordAt d (inputOf a) (d .outputs) }) (refusedReading 10)
-readingOr (suc k) d a = refusedReading (suc k)
+readingOr zero d a = record { refusal = 0; word = wordAt d (inputOf a) (d .outputs) }
+readingOr (suc k) d a = record { refusal = suc k; word = 0 }
 
-unfoldable pub readingOf : Table → ℕ → Reading
-readingOf t a = readingOr (t .refusal) (t .diagram) a
+unfoldable pub readingOf : List ℕ → ℕ → Reading
+readingOf file a = readingOr (readRefusal file a) (diagramIn file) a

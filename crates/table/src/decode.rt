@@ -6,12 +6,14 @@ ghost use Prim.Native.Nat.{_+_, _≤_, min};
 ghost use lib.ListN.{length, replicate};
 ghost use lib.Seq.{paste};
 ghost use Rattle.fields.specs.Fields.{fieldsOf, valueIn};
-ghost use Rattle.table.specs.Table.{contactsOf, rootsOf, widthsOf, edgesOf};
+ghost use Rattle.table.specs.Table.{rootsOf, widthsOf, edgesOf};
+ghost use Rattle.files.specs.Header.{contactsOf};
 
 // Copies the first bytes of value, at most so many, to dst from a place on.
 fn put(dst: &mut [u8], at: usize, value: &[u8], most: usize)
     requires { ⌜ at + most ≤ length (now dst) ⌝ }
-    ensures { λ _. ⌜ now (dst .exit) ≡ paste (now (dst .entry)) at (now (value .entry)) (min most (length (now (value .entry)))) ⌝ }
+    ensures { λ _. ⌜ now (dst .exit)
+        ≡ paste (now (dst .entry)) at (now (value .entry)) (min most (length (now (value .entry)))) ⌝ }
 {
     let mut i = 0;
     while i < most && i < value.len() {

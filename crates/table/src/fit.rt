@@ -4,7 +4,7 @@ use fields::Step;
 ghost use mathlib.Core.Path.{_≡_};
 ghost use lib.ListN.{drop};
 ghost use Rattle.fields.specs.Fields.{fieldsOf};
-ghost use Rattle.table.specs.Table.{outputsIn, isLevel, levelsIn};
+ghost use Rattle.table.specs.Table.{outputsIn, levelsIn};
 
 // Question 3's answer: the count of outputs.
 pub enum Outputs {
@@ -25,34 +25,10 @@ pub fn count_outputs(file: &[u8]) -> Outputs
     let Step::Next(field, _) = Cursor::new().skip(file, 1).next(file) else {
         return Outputs::Unlisted;
     };
-    let tag = field.tag;
-    let m = fields::value(file, field).len();
-    if tag != 2 {
+    if !files::has_parts(file, field, 2, 1, 1, 8) {
         return Outputs::Unlisted;
     }
-    if m < 1 {
-        return Outputs::Unlisted;
-    }
-    if 8 < m {
-        return Outputs::Unlisted;
-    }
-    Outputs::Listed(m)
-}
-
-// Whether a field's tag and length are those of a level.
-fn is_level(tag: u8, len: usize) -> bool
-    ensures { λ r. ⌜ r ≡ isLevel tag len ⌝ }
-{
-    if tag != 3 {
-        return false;
-    }
-    if len % 2 != 0 {
-        return false;
-    }
-    if len < 2 {
-        return false;
-    }
-    len <= 16
+    Outputs::Listed(fields::value(file, field).len())
 }
 
 // Question 4: do exactly n fields of tag 3 follow and no others, each of even length 2 to 16?
@@ -64,8 +40,7 @@ pub fn ask_levels(file: &[u8], n: usize) -> Levels
         let Step::Next(field, moved) = cursor.next(file) else {
             return Levels::Lacking;
         };
-        let tag = field.tag;
-        if !is_level(tag, fields::value(file, field).len()) {
+        if !files::has_parts(file, field, 3, 2, 1, 8) {
             return Levels::Lacking;
         }
         cursor = moved;

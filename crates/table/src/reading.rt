@@ -13,8 +13,9 @@ use files::Contacts;
 ghost use mathlib.Core.Path.{_≡_};
 ghost use Prim.Native.Nat.{_≤_};
 ghost use lib.ListN.{length};
-ghost use Rattle.diagram.specs.Lent.{Fit, HasLevels, HasOutputs};
-ghost use Rattle.table.specs.Table.{fieldsRefusal, diagramRefusal, refusedTable, tableOf, readingOf};
+ghost use Rattle.diagram.specs.Inner.Lent.{Fit, WithArrays};
+ghost use Rattle.table.specs.Table.{fieldsRefusal, diagramRefusal, readingOf};
+ghost use Rattle.table.specs.Inner.Read.{refusedTable, tableOf};
 
 // A table's diagram, or the number of the first question that it fails and nothing else.
 pub struct Table {
@@ -57,7 +58,7 @@ fn asked_of_diagram<'a>(
     roots: &'a [u8],
 ) -> u32
     requires { ⌜ Fit n (now widths) (now edges) × (m ≤ length (now roots)) ⌝ }
-    ensures { λ r. ⌜ ((d : Diagram) → HasLevels d n (now (widths .entry)) (now (edges .entry)) → HasOutputs d m (now (roots .entry)) → r ≡ diagramRefusal d) ⌝ }
+    ensures { λ r. ⌜ WithArrays n (now (widths .entry)) (now (edges .entry)) m (now (roots .entry)) (λ d. r ≡ diagramRefusal d) ⌝ }
 {
     let Range::Within = diagram::ask_range(n, widths, edges, m, roots) else {
         return 5;
@@ -122,7 +123,7 @@ pub fn read(file: &[u8]) -> Table
 
 // The word of a table at input a: question 10 after the table's own.
 pub fn read_off(file: &[u8], a: u32) -> Reading
-    ensures { λ r. ⌜ r ≡ readingOf (tableOf (now (file .entry))) a ⌝ }
+    ensures { λ r. ⌜ r ≡ readingOf (now (file .entry)) a ⌝ }
 {
     let table = read(file);
     let refusal = table.refusal;

@@ -1,10 +1,12 @@
 -- `pilgodur_probe` meets its contract: what `probe` returns, with the number of its way.
 use borrow.Author.Needs.{needs}
 use Prim.Native.Nat.{ℕ}
-use mathlib.Core.Path.{_≡_, ap}
+use mathlib.Core.Path.{_≡_, ap, ap₂}
+use mathlib.Core.List.{List}
 use Rattle.probe.specs.declared.service.Probed as core
+use Rattle.probe.specs.Service.{Probing}
 use Rattle.pilgodur.specs.declared.Probed.{Probed}
-use Rattle.pilgodur.specs.Answers.{wayNumber, probedBy}
+use Rattle.pilgodur.specs.Answers.{wayNumber, probedBy, probeOf}
 use Rattle.pilgodur.proofs.pilgodur_probe.Statement.{statement}
 use Rattle.pilgodur.proofs.pilgodur_probe.Tie as tie
 
@@ -22,9 +24,12 @@ numbered : {p q : core.Probed} {w : ℕ} → p ≡ q → w ≡ wayNumber (p .way
 numbered {p} e f = rw f (ap probedBy e)
 
 returns : tie.Need-returns
+unfolding probeOf
 returns c =
     let probe = c .before .before .before .probe in
-    (numbered (probe .ensures .0) (c .way-number .ensures), probe .ensures .1)
+    ap₂ (λ (a : Probed) (b : List ℕ). record { answer = a; buffer = b })
+    (numbered (ap (λ (p : Probing core.Probed). p .answer) (probe .ensures)) (c .way-number .ensures))
+    (ap (λ (p : Probing core.Probed). p .buffer) (probe .ensures))
 
 pub pilgodur-probe-spec : {M : Type 1} → statement M
 pilgodur-probe-spec = tie.close (tie.spec probe-requires way-number-requires same-length returns)

@@ -1,7 +1,7 @@
 -- `found` meets its contract: a step that is no field has no value.
 use borrow.Author.Needs.{needs}
 use mathlib.Core.Path.{sym, ap, _∙_}
-use Rattle.reader.specs.Found.{foundIn}
+use Rattle.reader.specs.Inner.Found.{foundIn}
 use Rattle.reader.proofs.Places.{none-found}
 use Rattle.reader.proofs.found.Statement.{statement}
 use Rattle.reader.proofs.found.Tie as tie

@@ -7,7 +7,7 @@ use native.Mathlib.Numerals.{add-one, add-one-le}
 use mathlib.Core.Path.{_≡_, refl, ap, _∙_}
 use lib.ListN.{length}
 use Rattle.diagram.specs.Diagram.{width}
-use Rattle.products.specs.Cells.{Stored}
+use Rattle.products.specs.Inner.Cells.{Stored}
 use Rattle.rules.proofs.Bounds.{sized-narrow}
 use Rattle.products.proofs.Cells.{rows-none, rows-more, stored-same}
 use Rattle.blocks.proofs.Levels.{edgeEntry, edge-entry}

@@ -7,7 +7,7 @@ use lib.ListN.{length, length-set}
 use Rattle.rules.specs.Blocks.{nodeEntry}
 use Rattle.rules.specs.Board.{lineOf}
 use Rattle.rules.proofs.Entries.{node-entry}
-use Rattle.products.specs.Cells.{entryOf, RowStored}
+use Rattle.products.specs.Inner.Cells.{entryOf, RowStored}
 use Rattle.products.proofs.Cells.{row-none, row-more}
 use Rattle.products.proofs.Standing.{real-stands}
 use Rattle.blocks.proofs.matrices.level_row.Statement.{statement}

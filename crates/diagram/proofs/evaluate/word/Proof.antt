@@ -10,7 +10,7 @@ use lib.ListN.{getD}
 use lib.Pow.{shl-exact}
 use Rattle.diagram.specs.declared.Diagram.{Diagram}
 use Rattle.diagram.specs.Diagram.{inputOf, path, root, valueAt, wordAt}
-use Rattle.diagram.specs.Lent.{HasOutputs}
+use Rattle.diagram.specs.Inner.Lent.{HasOutputs}
 use Rattle.diagram.proofs.evaluate.word.Statement.{statement}
 use Rattle.diagram.proofs.evaluate.word.Tie as tie
 

@@ -7,7 +7,7 @@ use mathlib.Core.Path.{_≡_, sym, _∙_}
 use mathlib.Core.Bool.{true}
 use Rattle.fields.specs.Bounded.{all}
 use Rattle.fields.proofs.Bounded.{all-none, all-more}
-use Rattle.diagram.specs.Bytes.{isUnlike}
+use Rattle.diagram.specs.Inner.Bytes.{isUnlike}
 use Rattle.diagram.proofs.Loops.{all-end, all-broken}
 use Rattle.diagram.proofs.sound.all_unlike.Statement.{statement}
 use Rattle.diagram.proofs.sound.all_unlike.Tie as tie

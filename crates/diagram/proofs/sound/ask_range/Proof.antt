@@ -8,7 +8,7 @@ use mathlib.Core.Bool.{true, false}
 use lib.ListN.{getD}
 use Rattle.fields.specs.Bounded.{all}
 use Rattle.fields.proofs.Bounded.{all-none, all-more}
-use Rattle.diagram.specs.Bytes.{isBelow}
+use Rattle.diagram.specs.Inner.Bytes.{isBelow}
 use Rattle.diagram.proofs.Asked.{widthIn, belowAt, range-by}
 use Rattle.diagram.proofs.Loops.{all-end, all-broken}
 use Rattle.diagram.proofs.sound.ask_range.Statement.{statement}

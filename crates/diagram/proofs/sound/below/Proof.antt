@@ -7,7 +7,7 @@ use mathlib.Core.Path.{_≡_}
 use mathlib.Core.Bool.{true}
 use Rattle.fields.specs.Bounded.{all}
 use Rattle.fields.proofs.Bounded.{all-none, all-more}
-use Rattle.diagram.specs.Bytes.{isBelow}
+use Rattle.diagram.specs.Inner.Bytes.{isBelow}
 use Rattle.diagram.proofs.Loops.{all-end, all-broken}
 use Rattle.diagram.proofs.sound.below.Statement.{statement}
 use Rattle.diagram.proofs.sound.below.Tie as tie

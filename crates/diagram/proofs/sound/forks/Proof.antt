@@ -8,7 +8,7 @@ use mathlib.Core.Path.{_≡_}
 use mathlib.Core.Bool.{false}
 use Rattle.fields.specs.Bounded.{any}
 use Rattle.fields.proofs.Bounded.{any-none, any-more}
-use Rattle.diagram.specs.Bytes.{isFork}
+use Rattle.diagram.specs.Inner.Bytes.{isFork}
 use Rattle.diagram.proofs.Loops.{any-end, any-met}
 use Rattle.diagram.proofs.sound.forks.Statement.{statement}
 use Rattle.diagram.proofs.sound.forks.Tie as tie

@@ -11,7 +11,7 @@ use mathlib.Core.Logic.{⊎-elim}
 use lib.ListN.{getD}
 use Rattle.fields.specs.Bounded.{all}
 use Rattle.fields.proofs.Bounded.{all-none, all-more}
-use Rattle.diagram.specs.Bytes.{isUnlike}
+use Rattle.diagram.specs.Inner.Bytes.{isUnlike}
 use Rattle.diagram.proofs.Loops.{all-end, all-broken}
 use Rattle.diagram.proofs.sound.unlike.Statement.{statement}
 use Rattle.diagram.proofs.sound.unlike.Tie as tie

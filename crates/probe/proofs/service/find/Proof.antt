@@ -3,18 +3,16 @@ use borrow.Author.Needs.{needs}
 use Prim.Native.Nat.{ℕ, _+_, _-_, _/_}
 use native.Mathlib.Omega.{arith}
 use mathlib.Core.Path.{_≡_, sym, ap, ap₂, _∙_}
-use mathlib.Core.List.{List, [], _++_}
+use mathlib.Core.List.{List, _++_}
 use lib.ListN.{length, getD, take, drop}
 use Rattle.netlist.specs.declared.Hold.{Hold}
-use Rattle.netlist.specs.Netlist.{Netlist, gateLine, holdAt}
-use Rattle.simulation.specs.Service.{over}
-use Rattle.synthesis.specs.Service.{fileWith}
-use Rattle.synthesis.proofs.Files.{length-file}
+use Rattle.netlist.specs.Netlist.{pairsOf, Netlist, gateLine, holdAt, fileWith, netOf}
+use Rattle.files.specs.Room.{over}
+use Rattle.netlist.proofs.Written.{length-file}
 use Rattle.faults.specs.Betrayal.{stuckAt, smallestInput}
 use Rattle.probe.specs.Service.{foundAt}
-use Rattle.words.specs.Words.{netOf}
 use Rattle.probe.proofs.Findings.{read-behind, length-lines}
-use Rattle.probe.proofs.Probes.{found-same, betrayed-there}
+use Rattle.probe.proofs.Probes.{betrayed-there}
 use Rattle.probe.proofs.service.find.Statement.{statement}
 use Rattle.probe.proofs.service.find.Tie as tie
 
@@ -107,8 +105,7 @@ returns c =
     record {
       answered =
           c .name-output .ensures
-          ∙ ap₂ (foundAt (netOf 0 [] (args .pairs .now))) (found here) (part here)
-          ∙ found-same (args .n) (args .gates .now) (args .pairs .now) _ _;
+          ∙ ap₂ (foundAt (pairsOf (args .pairs .now))) (found here) (part here);
       written =
           here .write-at .ensures .1
           ∙ ap (λ (a : ℕ). over (fileWith (args .n) (args .gates .now) (args .pairs .now) ++ stuckAt (board here) (hold here) a) (args .buffer .now))

@@ -2,14 +2,12 @@
 use borrow.Author.Needs.{needs}
 use Prim.Native.Nat.{_/_, _<_}
 use native.Mathlib.Omega.{arith}
-use mathlib.Core.List.{[]}
 use lib.ListN.{length}
 use Rattle.netlist.specs.Netlist.{pairsOf}
 use Rattle.netlist.proofs.Lists.{length-pairs}
 use Rattle.netlist.proofs.Tests.{pairs-at}
 use Rattle.faults.specs.Betrayal.{noCode}
-use Rattle.words.specs.Words.{netOf}
-use Rattle.faults.proofs.Least.{least-first}
+use Rattle.fields.proofs.Least.{least-first}
 use Rattle.probe.proofs.Probes.{found-by}
 use Rattle.probe.proofs.service.name_output.Statement.{statement}
 use Rattle.probe.proofs.service.name_output.Tie as tie
@@ -28,7 +26,7 @@ output : (c : tie.After-lowest) → c .lowest .result < length (c .before .befor
 output c =
     let start = c .before .before .before in
     let pairs = start .args .pairs .now in
-    let first = least-first (noCode (netOf 0 [] pairs) (start .args .lines .now)) (length (pairsOf pairs)) (start .pre .1) in
+    let first = least-first (noCode (pairsOf pairs) (start .args .lines .now)) (length (pairsOf pairs)) (start .pre .1) in
     omega (arith, c .lowest .ensures, length-pairs pairs, first .below)
 
 value-at-requires : tie.Need-value-at-requires

@@ -3,7 +3,7 @@ use borrow.Author.Needs.{needs}
 use native.Mathlib.Omega.{arith}
 use Rattle.table.specs.Promises.{Accepted}
 use Rattle.synthesis.proofs.Services.{Unrefused, unrefused}
-use Rattle.probe.specs.Findings.{Drawn}
+use Rattle.probe.specs.Inner.Findings.{AcceptedDiagram}
 use Rattle.probe.proofs.Outcomes.{table-refused, probe-done}
 use Rattle.probe.proofs.service.probe.Statement.{statement}
 use Rattle.probe.proofs.service.probe.Tie as tie
@@ -15,7 +15,7 @@ start c = c .before .before .before .before .before .before
 kept : (c : tie.After-d) → Unrefused (start c .args .table .now) (c .before .before .read .result .diagram)
 kept c = unrefused _ (c .before .before .read .ensures) (c .before .if1 .left)
 
-drawn : (c : tie.After-d) → Drawn (c .before .before .read .result .diagram)
+drawn : (c : tie.After-d) → AcceptedDiagram (c .before .before .read .result .diagram)
 drawn c =
     let bytes : Accepted (start c .args .table .now) =
     ((λ i. omega (arith, c .before .before .before .before .before .shared-slice-known .given i)), kept c .yes) in

@@ -8,12 +8,12 @@ use lib.Seq.{length-take-le}
 use Rattle.diagram.specs.declared.Diagram.{Diagram}
 use Rattle.diagram.specs.Questions.{Sized}
 use Rattle.netlist.specs.declared.drive.Holds.the-variants.{Ordered}
-use Rattle.netlist.specs.declared.drive.Room.the-variants.{Enough}
+use Rattle.files.specs.declared.room.Room.the-variants.{Enough}
 use Rattle.netlist.specs.Netlist.{gateLine}
-use Rattle.netlist.specs.Questions.{roomOf}
+use Rattle.files.specs.Room.{roomOf}
 use Rattle.rules.specs.Board.{boardOf}
 use Rattle.synthesis.proofs.Services.{gates-few, taken-gates, taken-pairs}
-use Rattle.probe.specs.Findings.{Drawn}
+use Rattle.probe.specs.Inner.Findings.{AcceptedDiagram}
 use Rattle.probe.specs.Service.{oneHold}
 use Rattle.probe.proofs.Boards.{gatesOn, pairsOn, sized, ranged}
 use Rattle.probe.proofs.Outcomes.{disordered, short, ready, found}
@@ -27,7 +27,7 @@ start c = c .before .before .before .before .before .before
 abbrev diagram : tie.After-synthesise → Diagram
 diagram c = start c .args .d
 
-drawn : (c : tie.After-synthesise) → Drawn (diagram c)
+drawn : (c : tie.After-synthesise) → AcceptedDiagram (diagram c)
 drawn c = start c .pre .0
 
 within : (c : tie.After-synthesise) → Sized (diagram c)

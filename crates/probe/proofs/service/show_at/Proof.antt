@@ -5,7 +5,7 @@ use mathlib.Core.Path.{_≡_, sym, ap, _∙_}
 use mathlib.Core.List.{List}
 use lib.ListN.{length, take}
 use Rattle.diagram.specs.Diagram.{inputOf}
-use Rattle.simulation.specs.Service.{over}
+use Rattle.files.specs.Room.{over}
 use Rattle.rules.proofs.Codes.{code-length}
 use Rattle.probe.proofs.Findings.{ready-at, shown-at}
 use Rattle.probe.proofs.service.show_at.Statement.{statement}

@@ -3,11 +3,9 @@ use borrow.Author.Needs.{needs}
 use native.Mathlib.Omega.{arith}
 use mathlib.Core.Path.{_≡_, refl}
 use lib.ListN.{length}
-use Rattle.netlist.specs.Netlist.{holdAt}
-use Rattle.synthesis.specs.Service.{fileWith}
-use Rattle.synthesis.proofs.Files.{length-file}
+use Rattle.netlist.specs.Netlist.{holdAt, fileWith, netOf}
+use Rattle.netlist.proofs.Written.{length-file}
 use Rattle.faults.specs.Betrayal.{stuckAt}
-use Rattle.words.specs.Words.{netOf}
 use Rattle.probe.proofs.Findings.{written-behind, lines-same}
 use Rattle.probe.proofs.service.write_at.Statement.{statement}
 use Rattle.probe.proofs.service.write_at.Tie as tie

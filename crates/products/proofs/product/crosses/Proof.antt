@@ -6,7 +6,7 @@ use mathlib.Core.Path.{_≡_, refl, sym, _∙_}
 use mathlib.Core.Bool.{Bool, true, false, not, false≢true}
 use Rattle.fields.specs.Bounded.{any}
 use Rattle.fields.proofs.Bounded.{any-none, any-more, any-at}
-use Rattle.products.specs.Cells.{matrixOf}
+use Rattle.products.specs.Inner.Cells.{matrixOf}
 use Rattle.rules.proofs.Products.{sure, none-sure}
 use Rattle.products.proofs.product.crosses.Statement.{statement}
 use Rattle.products.proofs.product.crosses.Tie as tie

@@ -6,8 +6,8 @@ use mathlib.Core.Path.{_≡_, refl, sym, _∙_}
 use mathlib.Core.Logic.{⊎-elim}
 use lib.ListN.{length, length-set, set, take}
 use Rattle.fields.proofs.Bounded.{any-none}
-use Rattle.products.specs.Cells.{matrixOf}
-use Rattle.products.specs.Terms.{anyAlways, Listed, ended}
+use Rattle.products.specs.Inner.Cells.{matrixOf}
+use Rattle.products.specs.Inner.Terms.{anyAlways, Listed, ended}
 use Rattle.products.proofs.Listing.{listed-never, listed-more, some-always, none-always}
 use Rattle.products.proofs.product.list_nodes.Statement.{statement}
 use Rattle.products.proofs.product.list_nodes.Tie as tie

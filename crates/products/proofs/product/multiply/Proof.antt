@@ -4,7 +4,7 @@ use native.Mathlib.Omega.{arith}
 use Prim.Native.Nat.{_≤_, _-_}
 use mathlib.Core.Path.{_≡_, refl}
 use lib.ListN.{length}
-use Rattle.products.specs.Cells.{matrixOf}
+use Rattle.products.specs.Inner.Cells.{matrixOf}
 use Rattle.products.proofs.WrittenRows.{Turned, begun, longer, product-room}
 use Rattle.products.proofs.product.multiply.Statement.{statement}
 use Rattle.products.proofs.product.multiply.Tie as tie

@@ -5,7 +5,7 @@ use Prim.Native.Nat.{_≤_, _-_}
 use mathlib.Core.Path.{_≡_, refl, sym, ap, _∙_}
 use lib.ListN.{length, length-set}
 use lib.Seq.{length-take-le}
-use Rattle.products.specs.Cells.{matrixOf, entryOf}
+use Rattle.products.specs.Inner.Cells.{matrixOf, entryOf}
 use Rattle.products.proofs.Standing.{entry-stands}
 use Rattle.products.proofs.WrittenRows.{RowTurned, row-begun, row-longer, row-room}
 use Rattle.products.proofs.product.row.Statement.{statement}

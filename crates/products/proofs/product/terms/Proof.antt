@@ -5,9 +5,9 @@ use Prim.Native.Nat.{_≤_, _-_}
 use native.Mathlib.Numerals.{add-one}
 use mathlib.Core.Path.{_≡_, refl}
 use lib.ListN.{length, drop}
-use Rattle.products.specs.Cells.{matrixOf}
+use Rattle.products.specs.Inner.Cells.{matrixOf}
 use Rattle.products.proofs.WrittenTerms.{turned-none, turned-more, turned-room, turned-all}
-use Rattle.products.proofs.Listing.{Passed, passed-next, passed-last}
+use Rattle.products.proofs.Listing.{PassedNodes, passed-next, passed-last}
 use Rattle.products.proofs.product.terms.Statement.{statement}
 use Rattle.products.proofs.product.terms.Tie as tie
 
@@ -16,7 +16,7 @@ Inv-loop left right middle u v used lines₀ out₀ first made count₀ total₀
     (i ≤ length used)
     × (length lines ≡ length lines₀)
     × (length out ≡ length out₀)
-    × Passed (matrixOf left) (matrixOf right) u v first made middle (drop i used) out₀ out lines count total
+    × PassedNodes (matrixOf left) (matrixOf right) u v first made middle (drop i used) out₀ out lines count total
 
 abbrev μ-loop : tie.MeasureT-loop
 μ-loop left right middle u v used lines₀ out₀ first made count₀ total₀ last i₀ lines out count total i = length used - i

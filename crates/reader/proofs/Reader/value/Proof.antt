@@ -30,7 +30,7 @@ use denote.Triple.Table.{entered, cited}
 use Rattle.fields.specs.declared.Step.{Step}
 use Rattle.reader.specs.declared.Reader.{Reader}
 use Rattle.reader.proofs.ByHand.{Walked, Left, ends, meets, calls}
-use Rattle.reader.proofs.Held.{Found, the-file, the-reader, the-step, step-val, step-tells, step-typed, file-val, reader-val, reader-vals, reader-tells, Typed, typed, its-file}
+use Rattle.reader.proofs.Held.{FoundBy, the-file, the-reader, the-step, step-val, step-tells, step-typed, file-val, reader-val, reader-vals, reader-tells, Typed, typed, its-file}
 use Rattle.reader.proofs.found as found
 use Rattle.reader.proofs.found.Symbol as found-def
 use Rattle.reader.proofs.found.Symbol.{name as #found}
@@ -67,7 +67,7 @@ module _ {M : Type 1} (𝓤 : URA M) (H : Heap 𝓤) (A : Atoms 𝓤) (W : Given
       qed W ((‵ (flft κ q) ⊛ ‵ ftrue) ∷ ‵ (owns (the-reader κ ∷ the-step ∷ []) (d, (s, tt)) at) ∷ []) ∵
       frame ! $ fsplit ! $ use1 W (‵ (the-file κ .own (d .src) (file-val (d .src) ∷ []))) (its-file 𝓤 H A W κ d (reader-val d)) $ fjoin ! $ done !
 
-  exits : (r : RefT (List ℕ)) (u : Val) → Found d s r → ent 𝓤 (Left 𝓤 H A W value.ended (c 𝓤 H A mem run) End u r) (Post u)
+  exits : (r : RefT (List ℕ)) (u : Val) → FoundBy d s r → ent 𝓤 (Left 𝓤 H A W value.ended (c 𝓤 H A mem run) End u r) (Post u)
   exits r u e = ends 𝓤 H A W value.ended (c 𝓤 H A mem run) End u r (tt, (tt, tt)) (factI 𝓤 _ (emp 𝓤) e)
 
   module _ (C : Calls 𝓤 H) (Λ : Loops 𝓤 H) (fm : FmC 𝓤 H (W .laws) C) (known : Triple 𝓤 (C #found) (Finds 𝓤 H A mem run)) where
@@ -77,7 +77,7 @@ module _ {M : Type 1} (𝓤 : URA M) (H : Heap 𝓤) (A : Atoms 𝓤) (W : Given
         alloc1 ! (λ l₀. alloc1 ! (λ l₁. alloc1 ! (λ l₂. alloc1 ! (λ l₃. alloc0 ! $ params1 ! $ pass1 ! (init ! 4 refl wt) $ pass1 ! (init ! 2 refl (step-typed 𝓤 H A W κ s (step-val s) ps)) $ pass0 ! $
         assigns ! (of-opd ! (load ! (from ! (fld ! refl (stop !))) (look-in ! 4 (sub ! 0 refl (whole !))))) (from ! (stop !)) (init ! 0 refl (tt, wt .1 .0)) $
         move ! (8 ∷ []) $ use1 W (raw (onEntry 𝓤 H A found.signature (κ, tt) (q, tt) (d .src, (s, tt)) passed)) apart $
-        calls 𝓤 H A W found.ended (found.clauses 𝓤 H A mem run) ! fm known (((κ, tt), (q, tt), tt, (d .src, (s, tt)), passed), tt) (id⊢ 𝓤 (emp 𝓤)) (Found d s) (λ r ws. id⊢ 𝓤 _)
+        calls 𝓤 H A W found.ended (found.clauses 𝓤 H A mem run) ! fm known (((κ, tt), (q, tt), tt, (d .src, (s, tt)), passed), tt) (id⊢ 𝓤 (emp 𝓤)) (FoundBy d s) (λ r ws. id⊢ 𝓤 _)
         (and-then ! (load ! (from ! (stop !)) (look ! 1 refl)) (and-then ! (load ! (from ! (stop !)) (look ! 3 refl)) (no-more !))) (λ u r e is.
         -- [what the result owns; the token; _3; …; _2; …; _1; …; room for _0; …]
         land ! (from ! (stop !)) (init ! 8 refl (shr-slice-lawful 𝓤 H A W (named 0) κ u8 .typed r (u ∷ []) is .0)) $

@@ -32,11 +32,12 @@ use denote.Triple.Table.{entered, cited}
 use Rattle.fields.specs.Fields.{fieldsFrom, fieldsOf, valueIn}
 use Rattle.fields.specs.declared.Step.{Step}
 use Rattle.fields.proofs.Steps.{from-start}
-use Rattle.reader.specs.Found.{foundIn}
+use Rattle.reader.specs.Inner.Found.{foundIn}
 use Rattle.reader.specs.declared.Reader.{Reader}
-use Rattle.reader.proofs.Places.{value-by, found-at}
+use Rattle.reader.proofs.Places.{found-at}
+use Rattle.fields.proofs.Places.{value-by}
 use Rattle.reader.proofs.ByHand.{Walked, Left, ends, meets, calls}
-use Rattle.reader.proofs.Held.{Made, Moved, Stepped, Found, the-file, the-reader, the-step, file-val, typed-local, step-typed, twice}
+use Rattle.reader.proofs.Held.{MadeReader, Moved, Stepped, FoundBy, the-file, the-reader, the-step, file-val, typed-local, step-typed, twice}
 use Rattle.reader.proofs.Reader.new as new
 use Rattle.reader.proofs.Reader.new.Symbol as new-def
 use Rattle.reader.proofs.Reader.new.Symbol.{name as #new}
@@ -76,7 +77,7 @@ module _ {M : Type 1} (𝓤 : URA M) (H : Heap 𝓤) (A : Atoms 𝓤) (mem : Mem
   Value = tripleOf 𝓤 H A value.signature (value.spec 𝓤 H A mem run)
 
 -- What the four calls say together.
-together : (s : RefT (List ℕ)) (n : ℕ) (d m : Reader) (t : Step) (r : RefT (List ℕ)) → Made s d → Moved d n m → Stepped m t → Found m t r → now r ≡ valueIn (fieldsOf (now s) .items) n
+together : (s : RefT (List ℕ)) (n : ℕ) (d m : Reader) (t : Step) (r : RefT (List ℕ)) → MadeReader s d → Moved d n m → Stepped m t → FoundBy m t r → now r ≡ valueIn (fieldsOf (now s) .items) n
 together s n d m t r made moved stepped found =
     let start = ap (λ (x : RefT (List ℕ)). fieldsFrom (now x) (d .at)) (made .0) ∙ from-start (now s) (made .1) in
     found ∙ ap (foundIn (now (m .src))) stepped ∙ found-at (now (m .src)) (m .at) ∙ value-by n (fieldsFrom (now (m .src)) (m .at) .items) start (moved .1) refl
@@ -130,7 +131,7 @@ module _ {M : Type 1} (𝓤 : URA M) (H : Heap 𝓤) (A : Atoms 𝓤) (W : Given
         alloc1 ! (λ l₀. alloc1 ! (λ l₁. alloc1 ! (λ l₂. alloc1 ! (λ l₃. alloc1 ! (λ l₄. alloc1 ! (λ l₅. alloc1 ! (λ l₆. alloc1 ! (λ l₇. alloc0 ! $ params1 ! $
         pass1 ! (init ! 12 refl (shr-slice-lawful 𝓤 H A W (named 0) κ u8 .typed s (file-val s ∷ []) p .0)) $ pass1 ! (init ! 10 refl (tt, record { fits = ok })) $ pass0 ! $
         move ! (16 ∷ []) $ use1 W (raw to-new) goes-new $
-        calls 𝓤 H A W new.ended (new.clauses 𝓤 H A mem run) ! fm known-new (((κ, tt), (q, tt), tt, (s, tt), (file-val s ∷ [], tt)), tt) (id⊢ 𝓤 (emp 𝓤)) (Made s) (λ d ws. id⊢ 𝓤 _)
+        calls 𝓤 H A W new.ended (new.clauses 𝓤 H A mem run) ! fm known-new (((κ, tt), (q, tt), tt, (s, tt), (file-val s ∷ [], tt)), tt) (id⊢ 𝓤 (emp 𝓤)) (MadeReader s) (λ d ws. id⊢ 𝓤 _)
         (and-then ! (load ! (from ! (stop !)) (look ! 13 refl)) (no-more !)) (λ u d made is.
         -- [what the reader owns; the token; _7; …; _6; …; _5; …; room for _4; …; _3; …; _2; …; _1; …; room for _0; …]
         land ! (from ! (stop !)) (init ! 8 refl (typed-local 𝓤 H A W κ d u is)) $ use2 W (raw (to-skip d u)) (goes-skip d u) $
@@ -145,7 +146,7 @@ module _ {M : Type 1} (𝓤 : URA M) (H : Heap 𝓤) (A : Atoms 𝓤) (W : Given
         (and-then ! (load ! (from ! (stop !)) (look ! 2 refl)) (no-more !)) (λ w t stepped ist.
         -- [what the step owns; the token; what the reader owns; _7; …; room for _6; …; _5; …]
         land ! (from ! (stop !)) (init ! 5 refl (step-typed 𝓤 H A W κ t w ist)) $ use3 W (raw (to-value m u′ t w)) (goes-value m u′ t w) $
-        calls 𝓤 H A W value.ended (value.clauses 𝓤 H A mem run) ! fm known-value (((κ, tt), (q, tt), tt, (m, (t, tt)), (u′ ∷ [], (w ∷ [], tt))), tt) (id⊢ 𝓤 (emp 𝓤)) (Found m t) (λ r ws. id⊢ 𝓤 _)
+        calls 𝓤 H A W value.ended (value.clauses 𝓤 H A mem run) ! fm known-value (((κ, tt), (q, tt), tt, (m, (t, tt)), (u′ ∷ [], (w ∷ [], tt))), tt) (id⊢ 𝓤 (emp 𝓤)) (FoundBy m t) (λ r ws. id⊢ 𝓤 _)
         (and-then ! (load ! (from ! (stop !)) (look ! 5 refl)) (and-then ! (load ! (from ! (stop !)) (look ! 3 refl)) (no-more !))) (λ v r found isr.
         land ! (from ! (stop !)) (init ! 16 refl (shr-slice-lawful 𝓤 H A W (named 0) κ u8 .typed r (v ∷ []) isr .0)) $
         returns ! (look ! 16 refl) $ forget ! 2 refl $ forget ! 4 refl $ forget ! 6 refl $ forget ! 8 refl $ forget ! 10 refl $ forget ! 12 refl $ forget ! 14 refl $ forget ! 16 refl $

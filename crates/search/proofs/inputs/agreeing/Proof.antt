@@ -3,7 +3,6 @@ use borrow.Author.Needs.{needs}
 use Prim.Native.Nat.{ℕ, _-_, _≤_, _<_}
 use native.Mathlib.Omega.{arith}
 use mathlib.Core.Path.{_≡_}
-use mathlib.Core.List.{[]}
 use lib.ListN.{length}
 use Rattle.fields.specs.Bounded.{any}
 use Rattle.diagram.specs.Diagram.{bit}
@@ -11,18 +10,18 @@ use Rattle.netlist.specs.Netlist.{pairAt, pairsOf}
 use Rattle.netlist.proofs.Lists.{length-pairs}
 use Rattle.netlist.proofs.Tests.{PairIn, pairs-at}
 use Rattle.faults.specs.Betrayal.{noCode}
-use Rattle.words.specs.Words.{bitOf, bitsOf, netOf}
+use Rattle.batches.specs.Inner.Batches.{bitOf, bitsOf}
 use Rattle.search.proofs.Agree.{agree-more}
-use Rattle.words.proofs.Bits.{bit-zero}
+use Rattle.batches.proofs.Bits.{bit-zero}
 use Rattle.search.proofs.inputs.agreeing.Statement.{statement}
 use Rattle.search.proofs.inputs.agreeing.Tie as tie
 
 abbrev Inv-loop : tie.InvT-loop
-Inv-loop pairs words mask₀ j₀ j-end mask j =
-    (j ≤ j-end) × ((k : ℕ) → k < 64 → bitOf k mask ≡ bit (any j (noCode (netOf 0 [] pairs) (bitsOf k words))))
+Inv-loop pairs batches mask₀ j₀ j-end mask j =
+    (j ≤ j-end) × ((k : ℕ) → k < 64 → bitOf k mask ≡ bit (any j (noCode (pairsOf pairs) (bitsOf k batches))))
 
 abbrev μ-loop : tie.MeasureT-loop
-μ-loop pairs words mask₀ j₀ j-end mask j = j-end - j
+μ-loop pairs batches mask₀ j₀ j-end mask j = j-end - j
 
 loop-holds : tie.Need-loop-holds Inv-loop μ-loop
 unfolding any
@@ -34,19 +33,19 @@ mul-at c = search needs
 -- The output's lines are in range.
 low : (c : tie.In-loop Inv-loop μ-loop) →
     let start = c .before .before .before .before in
-    PairIn (length (start .args .words .now)) (pairAt (start .args .pairs .now) (c .before .loop .j))
+    PairIn (length (start .args .batches .now)) (pairAt (start .args .pairs .now) (c .before .loop .j))
 low c =
     let start = c .before .before .before .before in
-    pairs-at (length (start .args .words .now)) (start .args .pairs .now) (start .pre) (c .before .loop .j) (omega arith)
+    pairs-at (length (start .args .batches .now)) (start .args .pairs .now) (start .pre) (c .before .loop .j) (omega arith)
 
-word-at-requires : tie.Need-word-at-requires Inv-loop μ-loop
-word-at-requires c κs = let on = low c in (omega arith, omega arith)
+batch-at-requires : tie.Need-batch-at-requires Inv-loop μ-loop
+batch-at-requires c κs = let on = low c in (omega arith, omega arith)
 
-add-word-at : tie.Need-add-word-at Inv-loop μ-loop
-add-word-at c = search needs
+add-batch-at : tie.Need-add-batch-at Inv-loop μ-loop
+add-batch-at c = search needs
 
-word-at-requires-2 : tie.Need-word-at-requires-2 Inv-loop μ-loop
-word-at-requires-2 c κs = let on = low (c .before) in (omega arith, omega arith)
+batch-at-requires-2 : tie.Need-batch-at-requires-2 Inv-loop μ-loop
+batch-at-requires-2 c κs = let on = low (c .before) in (omega arith, omega arith)
 
 add-j : tie.Need-add-j Inv-loop μ-loop
 add-j c = search needs
@@ -60,9 +59,9 @@ loop-again c =
     let start = here .before .before .before in (
       omega arith,
       λ k l.
-          agree-more k (start .args .pairs .now) (start .args .words .now) (here .loop .j) (here .loop .mask) _ _ l (omega arith)
-          (c .before .word-at .ensures)
-          (c .word-at2 .ensures)
+          agree-more k (start .args .pairs .now) (start .args .batches .now) (here .loop .j) (here .loop .mask) _ _ l (omega arith)
+          (c .before .batch-at .ensures)
+          (c .batch-at2 .ensures)
           (here .loop .inv .1 k l),
     )
 
@@ -81,9 +80,9 @@ agreeing-spec =
     μ-loop
     loop-holds
     mul-at
-    word-at-requires
-    add-word-at
-    word-at-requires-2
+    batch-at-requires
+    add-batch-at
+    batch-at-requires-2
     add-j
     loop-less
     loop-again

@@ -6,28 +6,26 @@ use Prim.Native.Nat.{ℕ, _+_, _-_, _/_, _<_}
 use native.Mathlib.Omega.{arith}
 use mathlib.Core.Path.{_≡_, sym, ap₂, _∙_}
 use mathlib.Core.Bool.{Bool, false}
-use mathlib.Core.List.{[]}
 use lib.Dec.{eqb}
 use lib.ListN.{length}
-use Rattle.netlist.specs.Netlist.{pairAt}
+use Rattle.netlist.specs.Netlist.{pairsOf, pairAt}
 use Rattle.netlist.proofs.Lists.{length-pairs}
 use Rattle.netlist.proofs.Tests.{PairIn, pairs-at}
 use Rattle.faults.specs.Betrayal.{noCode}
-use Rattle.words.specs.Words.{netOf}
 use Rattle.search.proofs.Agree.{agree-at}
-use Rattle.faults.proofs.Least.{least-is, within}
+use Rattle.fields.proofs.Least.{least-is, within}
 use Rattle.search.proofs.inputs.lowest.Statement.{statement}
 use Rattle.search.proofs.inputs.lowest.Tie as tie
 
 abbrev Inv-loop : tie.InvT-loop
-Inv-loop pairs lines j₀ j = (j < length pairs / 4) × ((i : ℕ) → i < j → noCode (netOf 0 [] pairs) lines i ≡ false)
+Inv-loop pairs lines j₀ j = (j < length pairs / 4) × ((i : ℕ) → i < j → noCode (pairsOf pairs) lines i ≡ false)
 
 abbrev μ-loop : tie.MeasureT-loop
 μ-loop pairs lines j₀ j = length pairs / 4 - j
 
 -- Whether an output agrees.
 abbrev passes : tie.Start Inv-loop μ-loop → ℕ → Bool
-passes start = noCode (netOf 0 [] (start .args .pairs .now)) (start .args .lines .now)
+passes start = noCode (pairsOf (start .args .pairs .now)) (start .args .lines .now)
 
 loop-holds : tie.Need-loop-holds Inv-loop μ-loop
 loop-holds c =

@@ -5,12 +5,12 @@ use native.Mathlib.Omega.{arith}
 use mathlib.Core.List.{List}
 use lib.ListN.{length, replicate, length-replicate}
 use Rattle.netlist.specs.Netlist.{gateLine}
-use Rattle.words.specs.Words.{Roomy}
+use Rattle.batches.specs.Inner.Batches.{BuffersFit}
 use Rattle.search.proofs.inputs.search.Statement.{statement}
 use Rattle.search.proofs.inputs.search.Tie as tie
 
 roomy : (n : ℕ) (gates : List ℕ) (s w : ℕ) → 2 * (length gates / 5) ≤ s → gateLine n + length gates / 5 ≤ w →
-    Roomy n gates (length (replicate {A = ℕ} s 0)) (length (replicate {A = ℕ} w 0)) (length (replicate {A = ℕ} w 0))
+    BuffersFit n gates (length (replicate {A = ℕ} s 0)) (length (replicate {A = ℕ} w 0)) (length (replicate {A = ℕ} w 0))
 roomy n gates s w hs hw =
     record { sources-fit = rw length-replicate hs; low-fits = rw length-replicate hw; high-fits = rw length-replicate hw }
 

@@ -11,9 +11,10 @@ use lib.Pow.{pow-mono}
 use lib.Seq.{length-take-le}
 use Rattle.diagram.specs.Diagram.{bit}
 use Rattle.faults.specs.Betrayal.{betrays}
-use Rattle.words.specs.Words.{bitOf, netOf}
+use Rattle.batches.specs.Inner.Batches.{bitOf}
+use Rattle.netlist.specs.Netlist.{netOf}
 use Rattle.search.proofs.Found.{clear-all, found}
-use Rattle.faults.proofs.Least.{least-is, within}
+use Rattle.fields.proofs.Least.{least-is, within}
 use Rattle.search.proofs.Masks.{mask-tells}
 use Rattle.search.proofs.Sources.{sources-at}
 use Rattle.search.proofs.inputs.search_in.Statement.{statement}
@@ -24,7 +25,7 @@ abbrev betrayed : List ℕ → List ℕ → ℕ → ℕ → ℕ → ℕ → Bool
 betrayed gates pairs n line value = betrays (netOf n gates pairs) (record { line = line; value = value })
 
 abbrev Inv-loop : tie.InvT-loop
-Inv-loop gates pairs n line value sources low₀ high₀ word lines base₀ low high base =
+Inv-loop gates pairs n line value sources low₀ high₀ batch lines base₀ low high base =
     (base % 64 ≡ 0)
     × (base < 2 ^ n)
     × (2 ^ n ≤ 4096)
@@ -33,7 +34,7 @@ Inv-loop gates pairs n line value sources low₀ high₀ word lines base₀ low 
     × ((a : ℕ) → a < base → betrayed gates pairs n line value a ≡ false)
 
 abbrev μ-loop : tie.MeasureT-loop
-μ-loop gates pairs n line value sources low₀ high₀ word lines base₀ low high base = 2 ^ n - base
+μ-loop gates pairs n line value sources low₀ high₀ batch lines base₀ low high base = 2 ^ n - base
 
 abbrev passes : tie.Start Inv-loop μ-loop → ℕ → Bool
 passes start =
@@ -43,17 +44,17 @@ passes start =
 abbrev start-of : tie.At-loop Inv-loop μ-loop → tie.Start Inv-loop μ-loop
 start-of here = here .before .before .before .before .before .before .before .before .before .before .before
 
-abbrev turn-of : tie.After-work-words Inv-loop μ-loop → tie.At-loop Inv-loop μ-loop
+abbrev turn-of : tie.After-work-batches Inv-loop μ-loop → tie.At-loop Inv-loop μ-loop
 turn-of worked = worked .before .before .before .before
 
 abbrev lines-of : tie.Start Inv-loop μ-loop → ℕ
 lines-of start = 2 + 2 * start .args .n + length (start .args .gates .now) / 5
 
-abbrev low-of : tie.After-work-words Inv-loop μ-loop → List ℕ
-low-of worked = worked .work-words .last .1 .1 .1 .1 .1 .1 .0
+abbrev low-of : tie.After-work-batches Inv-loop μ-loop → List ℕ
+low-of worked = worked .work-batches .last .1 .1 .1 .1 .1 .1 .0
 
-abbrev high-of : tie.After-work-words Inv-loop μ-loop → List ℕ
-high-of worked = worked .work-words .last .1 .1 .1 .1 .1 .1 .1 .0
+abbrev high-of : tie.After-work-batches Inv-loop μ-loop → List ℕ
+high-of worked = worked .work-batches .last .1 .1 .1 .1 .1 .1 .1 .0
 
 mul-take-sources : tie.Need-mul-take-sources Inv-loop μ-loop
 mul-take-sources c = search needs
@@ -64,8 +65,8 @@ add-take-sources c = search needs
 take-sources-requires : tie.Need-take-sources-requires Inv-loop μ-loop
 take-sources-requires c κs = search needs
 
-same-word-requires : tie.Need-same-word-requires Inv-loop μ-loop
-same-word-requires c κs = c .before .before .before .before .before .before .before .before .before .pre .0 .value
+same-batch-requires : tie.Need-same-batch-requires Inv-loop μ-loop
+same-batch-requires c κs = c .before .before .before .before .before .before .before .before .before .pre .0 .value
 
 mul-lines : tie.Need-mul-lines Inv-loop μ-loop
 mul-lines c = search needs
@@ -88,15 +89,15 @@ loop-holds c =
       none,
     )
 
-work-words-requires : tie.Need-work-words-requires Inv-loop μ-loop
-work-words-requires c κs =
+work-batches-requires : tie.Need-work-batches-requires Inv-loop μ-loop
+work-batches-requires c κs =
     let here = c .before .before .before in
     let start = start-of here in
     let board = start .pre .0 in
-    let word = here .before .same-word .ensures in
-    let sourced = sources-at _ _ _ _ _ _ _ (word 0 (omega arith)) (here .before .before .before .before .take-sources .ensures) in
-    let same : (k : ℕ) → k < 64 → bitOf k (here .before .same-word .result) ≡ bitOf 0 (here .before .same-word .result) =
-    λ k l. word k l ∙ sym (word 0 (omega arith)) in (
+    let batch = here .before .same-batch .ensures in
+    let sourced = sources-at _ _ _ _ _ _ _ (batch 0 (omega arith)) (here .before .before .before .before .take-sources .ensures) in
+    let same : (k : ℕ) → k < 64 → bitOf k (here .before .same-batch .result) ≡ bitOf 0 (here .before .same-batch .result) =
+    λ k l. batch k l ∙ sym (batch 0 (omega arith)) in (
       (
         record { few = board .few; fits = omega arith; wired = board .wired; sourced = sourced; same = same },
         record { few = board .few; fits = omega arith; wired = board .wired; sourced = sourced; same = same },
@@ -104,20 +105,20 @@ work-words-requires c κs =
       (here .loop .inv .0, omega arith),
     )
 
--- The words after a turn's work are as many as before.
-low-size : (c : tie.After-work-words Inv-loop μ-loop) → length (low-of c) ≡ length (start-of (turn-of c) .args .low .now)
-low-size c = c .work-words .kept .1 .1 .1 .1 .1 .1 .0 ∙ turn-of c .loop .inv .3
+-- The batches after a turn's work are as many as before.
+low-size : (c : tie.After-work-batches Inv-loop μ-loop) → length (low-of c) ≡ length (start-of (turn-of c) .args .low .now)
+low-size c = c .work-batches .kept .1 .1 .1 .1 .1 .1 .0 ∙ turn-of c .loop .inv .3
 
-high-size : (c : tie.After-work-words Inv-loop μ-loop) → length (high-of c) ≡ length (start-of (turn-of c) .args .high .now)
-high-size c = c .work-words .kept .1 .1 .1 .1 .1 .1 .1 .0 ∙ turn-of c .loop .inv .4
+high-size : (c : tie.After-work-batches Inv-loop μ-loop) → length (high-of c) ≡ length (start-of (turn-of c) .args .high .now)
+high-size c = c .work-batches .kept .1 .1 .1 .1 .1 .1 .1 .0 ∙ turn-of c .loop .inv .4
 
 -- Those lent to `agreeing` are one a line.
-low-lines : (c : tie.After-work-words Inv-loop μ-loop) →
+low-lines : (c : tie.After-work-batches Inv-loop μ-loop) →
     let lines = lines-of (start-of (turn-of c)) in
     length (take lines (low-of c)) ≡ lines
 low-lines c = length-take-le _ _ (omega (arith, low-size c, start-of (turn-of c) .pre .1 .low-fits))
 
-high-lines : (c : tie.After-work-words Inv-loop μ-loop) →
+high-lines : (c : tie.After-work-batches Inv-loop μ-loop) →
     let lines = lines-of (start-of (turn-of c)) in
     length (take lines (high-of c)) ≡ lines
 high-lines c = length-take-le _ _ (omega (arith, high-size c, start-of (turn-of c) .pre .1 .high-fits))
@@ -143,8 +144,8 @@ low-tells c =
     (take (lines-of (start-of here)) (low-of worked))
     (c .agreeing .result)
     (c .agreeing .ensures)
-    (worked .work-words .ensures .0)
-    (here .before .same-word .ensures)
+    (worked .work-batches .ensures .0)
+    (here .before .same-batch .ensures)
 
 cast-result : tie.Need-cast-result Inv-loop μ-loop
 cast-result c = let here = turn-of (c .before .before .before .before .before .before .before) in omega arith
@@ -219,8 +220,8 @@ high-tells c =
     (take (lines-of (start-of here)) (high-of worked))
     (c .agreeing2 .result)
     (c .agreeing2 .ensures)
-    (worked .work-words .ensures .1)
-    (here .before .same-word .ensures)
+    (worked .work-batches .ensures .1)
+    (here .before .same-batch .ensures)
 
 cast-result-2 : tie.Need-cast-result-2 Inv-loop μ-loop
 cast-result-2 c = omega (arith, high-within (c .before .before .before), turn-of (c .before .before .before .before .before .before .before .before .before .before) .loop .inv .2)
@@ -287,12 +288,12 @@ search-in-spec =
     mul-take-sources
     add-take-sources
     take-sources-requires
-    same-word-requires
+    same-batch-requires
     mul-lines
     add-lines
     add-lines-2
     loop-holds
-    work-words-requires
+    work-batches-requires
     slice-reshare-prefix-agreeing
     slice-aggregate-agreeing
     agreeing-requires

@@ -5,16 +5,16 @@ use native.Mathlib.Omega.{arith}
 use mathlib.Core.Path.{_≡_}
 use lib.ListN.{length}
 use Rattle.netlist.specs.Netlist.{gatesOf}
-use Rattle.search.proofs.GateWords.{Made, none-made, more-made, left-in, right-in}
+use Rattle.search.proofs.GateBatches.{MadeBatches, none-made, more-made, left-in, right-in}
 use Rattle.search.proofs.passes.put_gates.Statement.{statement}
 use Rattle.search.proofs.passes.put_gates.Tie as tie
 
 abbrev Inv-loop : tie.InvT-loop
-Inv-loop gates sources first line word low₀ high₀ g₀ g-end low high g =
-    (g ≤ g-end) × Made gates first line word low₀ low g × Made gates first line word high₀ high g
+Inv-loop gates sources first line batch low₀ high₀ g₀ g-end low high g =
+    (g ≤ g-end) × MadeBatches gates first line batch low₀ low g × MadeBatches gates first line batch high₀ high g
 
 abbrev μ-loop : tie.MeasureT-loop
-μ-loop gates sources first line word low₀ high₀ g₀ g-end low high g = g-end - g
+μ-loop gates sources first line batch low₀ high₀ g₀ g-end low high g = g-end - g
 
 loop-holds : tie.Need-loop-holds Inv-loop μ-loop
 loop-holds c = (omega arith, none-made _ _ _ _ _, none-made _ _ _ _ _)
@@ -25,22 +25,22 @@ mul-kind c = search needs
 shared-slice-read-kind : tie.Need-shared-slice-read-kind Inv-loop μ-loop
 shared-slice-read-kind c = search needs
 
-mul-gate-word : tie.Need-mul-gate-word Inv-loop μ-loop
-mul-gate-word c = search needs
+mul-gate-batch : tie.Need-mul-gate-batch Inv-loop μ-loop
+mul-gate-batch c = search needs
 
-gate-word-requires : tie.Need-gate-word-requires Inv-loop μ-loop
-gate-word-requires c κs =
+gate-batch-requires : tie.Need-gate-batch-requires Inv-loop μ-loop
+gate-batch-requires c κs =
     let here = c .before .before .before in
     let low = here .before .before .before .before .before .pre .0 in
     let left = left-in low (here .loop .g) (omega arith) in
     let right = right-in low (here .loop .g) (omega arith) in
     (omega (arith, low .sourced .room), omega arith, omega arith)
 
-mul-gate-word-2 : tie.Need-mul-gate-word-2 Inv-loop μ-loop
-mul-gate-word-2 c = search needs
+mul-gate-batch-2 : tie.Need-mul-gate-batch-2 Inv-loop μ-loop
+mul-gate-batch-2 c = search needs
 
-gate-word-requires-2 : tie.Need-gate-word-requires-2 Inv-loop μ-loop
-gate-word-requires-2 c κs =
+gate-batch-requires-2 : tie.Need-gate-batch-requires-2 Inv-loop μ-loop
+gate-batch-requires-2 c κs =
     let here = c .before .before .before .before .before in
     let high = here .before .before .before .before .before .pre .1 in
     let left = left-in high (here .loop .g) (omega arith) in
@@ -73,9 +73,9 @@ loop-again c =
     let here = c .before .before .before .before .before .before in
     let start = here .before .before .before .before .before in (
       omega arith,
-      more-made _ _ _ _ _ _ (here .loop .low) (here .loop .g) _ (start .pre .0) (omega arith) (c .before .before .gate-word .ensures)
+      more-made _ _ _ _ _ _ (here .loop .low) (here .loop .g) _ (start .pre .0) (omega arith) (c .before .before .gate-batch .ensures)
           (here .loop .inv .1),
-      more-made _ _ _ _ _ _ (here .loop .high) (here .loop .g) _ (start .pre .1) (omega arith) (c .gate-word2 .ensures)
+      more-made _ _ _ _ _ _ (here .loop .high) (here .loop .g) _ (start .pre .1) (omega arith) (c .gate-batch2 .ensures)
           (here .loop .inv .2),
     )
 
@@ -101,10 +101,10 @@ put-gates-spec =
     loop-holds
     mul-kind
     shared-slice-read-kind
-    mul-gate-word
-    gate-word-requires
-    mul-gate-word-2
-    gate-word-requires-2
+    mul-gate-batch
+    gate-batch-requires
+    mul-gate-batch-2
+    gate-batch-requires-2
     add-to
     mul-low
     slice-write-low

@@ -8,16 +8,16 @@ use lib.ListN.{length-set}
 use Rattle.diagram.specs.Diagram.{inputOf}
 use Rattle.simulation.specs.Run.{rail, workOut}
 use Rattle.rules.specs.Code.{codeRails}
-use Rattle.words.specs.Words.{ruleOf}
+use Rattle.batches.specs.Inner.Batches.{ruleOf}
 use Rattle.search.proofs.Lines.{constants}
 use Rattle.search.proofs.passes.put_inputs.Statement.{statement}
 use Rattle.search.proofs.passes.put_inputs.Tie as tie
 
-slice-write-words : tie.Need-slice-write-words
-slice-write-words c = search needs
+slice-write-batches : tie.Need-slice-write-batches
+slice-write-batches c = search needs
 
-slice-write-words-2 : tie.Need-slice-write-words-2
-slice-write-words-2 c = simp length-set (omega arith)
+slice-write-batches-2 : tie.Need-slice-write-batches-2
+slice-write-batches-2 c = simp length-set (omega arith)
 
 put-rails-requires : tie.Need-put-rails-requires
 put-rails-requires c κs = search needs
@@ -30,10 +30,10 @@ returns c =
     let args = c .before .before .before .before .before .args in
     λ k l.
     c .before .before .put-rails .ensures k l
-    ∙ ap (workOut (ruleOf (args .line) (args .word) k) (map rail (codeRails (args .n) (inputOf (args .base + k)))))
-    (constants k (args .words .now) l (omega arith))
+    ∙ ap (workOut (ruleOf (args .line) (args .batch) k) (map rail (codeRails (args .n) (inputOf (args .base + k)))))
+    (constants k (args .batches .now) l (omega arith))
 
 pub put-inputs-spec : {M : Type 1} → statement M
 put-inputs-spec =
     tie.close
-    (tie.spec slice-write-words slice-write-words-2 put-rails-requires same-length returns)
+    (tie.spec slice-write-batches slice-write-batches-2 put-rails-requires same-length returns)

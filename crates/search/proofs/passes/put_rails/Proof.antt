@@ -9,21 +9,21 @@ use Rattle.diagram.specs.Diagram.{inputOf}
 use Rattle.netlist.specs.Netlist.{gateLine}
 use Rattle.simulation.specs.Run.{rail, workOut}
 use Rattle.rules.specs.Code.{codeRails}
-use Rattle.words.specs.Words.{bitsOf, ruleOf}
+use Rattle.batches.specs.Inner.Batches.{bitsOf, ruleOf}
 use Rattle.search.proofs.Lines.{rails-more}
 use Rattle.search.proofs.passes.put_rails.Statement.{statement}
 use Rattle.search.proofs.passes.put_rails.Tie as tie
 
 abbrev Inv-loop : tie.InvT-loop
-Inv-loop n base line word words₀ i₀ words i =
+Inv-loop n base line batch batches₀ i₀ batches i =
     (i ≤ n)
-    × (length words ≡ length words₀)
+    × (length batches ≡ length batches₀)
     × ((k : ℕ) → k < 64 →
-    bitsOf k (take (gateLine i) words)
-    ≡ workOut (ruleOf line word k) (map rail (codeRails i (inputOf (base + k)))) (bitsOf k (take 2 words₀)))
+    bitsOf k (take (gateLine i) batches)
+    ≡ workOut (ruleOf line batch k) (map rail (codeRails i (inputOf (base + k)))) (bitsOf k (take 2 batches₀)))
 
 abbrev μ-loop : tie.MeasureT-loop
-μ-loop n base line word words₀ i₀ words i = n - i
+μ-loop n base line batch batches₀ i₀ batches i = n - i
 
 loop-holds : tie.Need-loop-holds Inv-loop μ-loop
 unfolding codeRails workOut
@@ -35,29 +35,29 @@ mul-at c = search needs
 add-at : tie.Need-add-at Inv-loop μ-loop
 add-at c = search needs
 
-rail-word-requires : tie.Need-rail-word-requires Inv-loop μ-loop
-rail-word-requires c κs = search needs
+rail-batch-requires : tie.Need-rail-batch-requires Inv-loop μ-loop
+rail-batch-requires c κs = search needs
 
-show-word-requires : tie.Need-show-word-requires Inv-loop μ-loop
-show-word-requires c κs = search needs
+show-batch-requires : tie.Need-show-batch-requires Inv-loop μ-loop
+show-batch-requires c κs = search needs
 
-mul-words : tie.Need-mul-words Inv-loop μ-loop
-mul-words c = search needs
+mul-batches : tie.Need-mul-batches Inv-loop μ-loop
+mul-batches c = search needs
 
-slice-write-words : tie.Need-slice-write-words Inv-loop μ-loop
-slice-write-words c = omega arith
+slice-write-batches : tie.Need-slice-write-batches Inv-loop μ-loop
+slice-write-batches c = omega arith
 
 add-next : tie.Need-add-next Inv-loop μ-loop
 add-next c = search needs
 
-show-word-requires-2 : tie.Need-show-word-requires-2 Inv-loop μ-loop
-show-word-requires-2 c κs = search needs
+show-batch-requires-2 : tie.Need-show-batch-requires-2 Inv-loop μ-loop
+show-batch-requires-2 c κs = search needs
 
-mul-words-2 : tie.Need-mul-words-2 Inv-loop μ-loop
-mul-words-2 c = search needs
+mul-batches-2 : tie.Need-mul-batches-2 Inv-loop μ-loop
+mul-batches-2 c = search needs
 
-slice-write-words-2 : tie.Need-slice-write-words-2 Inv-loop μ-loop
-slice-write-words-2 c = simp length-set (omega arith)
+slice-write-batches-2 : tie.Need-slice-write-batches-2 Inv-loop μ-loop
+slice-write-batches-2 c = simp length-set (omega arith)
 
 add-i : tie.Need-add-i Inv-loop μ-loop
 add-i c = search needs
@@ -72,10 +72,10 @@ loop-again c =
       omega arith,
       simp length-set (here .loop .inv .1),
       λ k l.
-          rails-more k _ _ (here .loop .words) _ (inputOf (here .before .before .args .base + k)) (here .loop .i) _ _ _ (omega arith) l
-          (turn .rail-word .ensures k l)
-          (c .before .show-word .ensures)
-          (c .show-word2 .ensures)
+          rails-more k _ _ (here .loop .batches) _ (inputOf (here .before .before .args .base + k)) (here .loop .i) _ _ _ (omega arith) l
+          (turn .rail-batch .ensures k l)
+          (c .before .show-batch .ensures)
+          (c .show-batch2 .ensures)
           (here .loop .inv .2 k l),
     )
 
@@ -97,14 +97,14 @@ put-rails-spec =
     loop-holds
     mul-at
     add-at
-    rail-word-requires
-    show-word-requires
-    mul-words
-    slice-write-words
+    rail-batch-requires
+    show-batch-requires
+    mul-batches
+    slice-write-batches
     add-next
-    show-word-requires-2
-    mul-words-2
-    slice-write-words-2
+    show-batch-requires-2
+    mul-batches-2
+    slice-write-batches-2
     add-i
     loop-less
     loop-again

@@ -4,14 +4,14 @@ use Prim.Native.Nat.{_+_, _-_, _/_, _≤_}
 use native.Mathlib.Omega.{arith}
 use mathlib.Core.Path.{_≡_, refl, ap, _∙_}
 use lib.ListN.{length, length-set}
-use Rattle.words.specs.Words.{heldWord, Sourced}
+use Rattle.batches.specs.Inner.Batches.{heldBatch, SourcesTaken}
 use Rattle.search.proofs.Sources.{sources-more}
 use Rattle.search.proofs.passes.take_sources.Statement.{statement}
 use Rattle.search.proofs.passes.take_sources.Tie as tie
 
 abbrev Inv-loop : tie.InvT-loop
 Inv-loop gates first line value sources₀ g₀ g-end sources g =
-    (g ≤ g-end) × (length sources ≡ length sources₀) × Sourced first line value g gates sources
+    (g ≤ g-end) × (length sources ≡ length sources₀) × SourcesTaken first line value g gates sources
 
 abbrev μ-loop : tie.MeasureT-loop
 μ-loop gates first line value sources₀ g₀ g-end sources g = g-end - g
@@ -75,7 +75,7 @@ loop-again : tie.Need-loop-again Inv-loop μ-loop
 loop-again c =
     let here = c .before .before .before .before .before in
     let args = here .before .before .before .args in
-    let shows = heldWord (args .line) (args .value) (args .first + here .loop .g) in (
+    let shows = heldBatch (args .line) (args .value) (args .first + here .loop .g) in (
       omega arith,
       simp length-set (here .loop .inv .1),
       sources-more _ _ _ (args .gates .now) (here .loop .sources) (here .loop .g) _ _ (omega arith)

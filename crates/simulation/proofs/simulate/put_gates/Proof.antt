@@ -6,13 +6,14 @@ use Prim.Native.Nat.{_+_, _-_, _/_, _≤_}
 use mathlib.Core.Path.{_≡_, refl, ap, _∙_}
 use mathlib.Core.List.{map}
 use lib.ListN.{length, take, length-set}
-use Rattle.netlist.specs.Netlist.{gateAt, listed, holdsOf}
+use Rattle.netlist.specs.Netlist.{gateAt, holdsOf}
+use Rattle.fields.specs.Bounded.{listed}
 use Rattle.simulation.specs.Run.{gate, held, holding, workOut}
-use Rattle.simulation.specs.Service.{over}
-use Rattle.simulation.specs.Walk.{Waits}
+use Rattle.files.specs.Room.{over}
+use Rattle.simulation.specs.Inner.Walk.{Waits}
 use Rattle.netlist.proofs.Tests.{GateOn, gates-at}
 use Rattle.simulation.proofs.Turns.{gate-more, gates-done}
-use Rattle.simulation.proofs.Writes.{over-own}
+use Rattle.files.proofs.Buffers.{over-own}
 use Rattle.simulation.proofs.simulate.put_gates.Statement.{statement}
 use Rattle.simulation.proofs.simulate.put_gates.Tie as tie
 

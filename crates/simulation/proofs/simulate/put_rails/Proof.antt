@@ -8,9 +8,9 @@ use mathlib.Core.List.{map}
 use lib.ListN.{length, take, length-set}
 use Rattle.netlist.specs.Netlist.{holdsOf}
 use Rattle.simulation.specs.Run.{rail, holding, workOut}
-use Rattle.simulation.specs.Service.{over}
-use Rattle.simulation.specs.Walk.{Waits}
-use Rattle.simulation.proofs.Writes.{over-own}
+use Rattle.files.specs.Room.{over}
+use Rattle.simulation.specs.Inner.Walk.{Waits}
+use Rattle.files.proofs.Buffers.{over-own}
 use Rattle.simulation.proofs.Turns.{rail-more, rails-done}
 use Rattle.simulation.proofs.simulate.put_rails.Statement.{statement}
 use Rattle.simulation.proofs.simulate.put_rails.Tie as tie

@@ -5,9 +5,10 @@ use Prim.Native.Nat.{_-_, _/_, _≤_}
 use mathlib.Core.Path.{_≡_, refl, _∙_}
 use mathlib.Core.List.{flatMap}
 use lib.ListN.{length, length-set}
-use Rattle.netlist.specs.Netlist.{pairAt, listed}
+use Rattle.netlist.specs.Netlist.{pairAt}
+use Rattle.fields.specs.Bounded.{listed}
 use Rattle.simulation.specs.Run.{shownOf}
-use Rattle.simulation.specs.Service.{over}
+use Rattle.files.specs.Room.{over}
 use Rattle.netlist.proofs.Tests.{PairIn, pairs-at}
 use Rattle.simulation.proofs.Turns.{pair-more, pairs-done}
 use Rattle.simulation.proofs.simulate.show_pairs.Statement.{statement}

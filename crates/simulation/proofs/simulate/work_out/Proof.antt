@@ -7,7 +7,7 @@ use mathlib.Core.List.{map}
 use lib.ListN.{length-set, length, length-map}
 use Rattle.netlist.specs.Netlist.{gatesOf, holdsOf}
 use Rattle.simulation.specs.Run.{Driver, rail, gate, holding}
-use Rattle.simulation.specs.Walk.{lineOrNone}
+use Rattle.simulation.specs.Inner.Walk.{lineOrNone}
 use Rattle.simulation.proofs.Waits.{starts}
 use Rattle.simulation.proofs.Writes.{all-lines}
 use Rattle.netlist.proofs.Lists.{length-gates}

@@ -5,7 +5,7 @@ use Prim.Native.Nat.{_+_, _*_, _≤_}
 use mathlib.Core.Path.{_≡_, sym, _∙_}
 use lib.ListN.{length, take}
 use lib.Seq.{length-take-le}
-use Rattle.simulation.proofs.Answers.{enough}
+use Rattle.files.proofs.Buffers.{enough}
 use Rattle.synthesis.proofs.Services.{gates-few, file-is, write-short, write-done}
 use Rattle.synthesis.proofs.service.write.Statement.{statement}
 use Rattle.synthesis.proofs.service.write.Tie as tie

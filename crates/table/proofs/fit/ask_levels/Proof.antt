@@ -7,13 +7,13 @@ use mathlib.Core.Path.{sym, _∙_}
 use lib.ListN.{drop}
 use Rattle.fields.specs.Fields.{fieldsFrom, fieldsOf}
 use Rattle.fields.proofs.Steps.{items-next, ended}
-use Rattle.table.proofs.Fits.{skipped, Passed, passed-none, passed-one, not-level, too-few, enough, too-many}
+use Rattle.table.proofs.Fits.{skipped, PassedLevels, passed-none, passed-one, not-level, too-few, enough, too-many}
 use Rattle.table.proofs.fit.ask_levels.Statement.{statement}
 use Rattle.table.proofs.fit.ask_levels.Tie as tie
 
 abbrev Inv-loop : tie.InvT-loop
 Inv-loop file n cursor₀ counter₀ cursor counter =
-    (counter ≤ n) × Passed n (drop 2 (fieldsOf file .items)) counter (fieldsFrom file (cursor .at) .items)
+    (counter ≤ n) × PassedLevels n (drop 2 (fieldsOf file .items)) counter (fieldsFrom file (cursor .at) .items)
 
 abbrev μ-loop : tie.MeasureT-loop
 μ-loop file n cursor₀ counter₀ cursor counter = n - counter
@@ -41,20 +41,17 @@ returns c =
     too-few _ _ (loop .counter) _ (loop .inv .1) (c .before .before .loop-test .taken)
     (ended _ _ _ (sym (c .before .next .ensures)) (c .match .keys2))
 
-value-requires : tie.Need-value-requires Inv-loop μ-loop
-value-requires c κs = search needs
-
-is-level-requires : tie.Need-is-level-requires Inv-loop μ-loop
-is-level-requires c κs = search needs
+has-parts-requires : tie.Need-has-parts-requires Inv-loop μ-loop
+has-parts-requires c κs = search needs
 
 returns-2 : tie.Need-returns-2 Inv-loop μ-loop
 returns-2 c =
-    let found = c .before .before .before .before in
+    let found = c .before .before .before in
     let turn = found .before .before .before in
     let loop = turn .before .loop in
     not-level _ _ (loop .counter) _ (loop .inv .1) (turn .loop-test .taken)
     (items-next _ _ (sym (found .before .before .next .ensures) ∙ found .field .given .1))
-    (rw (← c .before .before .value .ensures) (sym (c .before .is-level .ensures) ∙ not-true _ (c .if1 .taken)))
+    (sym (c .before .has-parts .ensures) ∙ not-true _ (c .if1 .taken))
 
 add-counter : tie.Need-add-counter Inv-loop μ-loop
 add-counter c = search needs
@@ -64,13 +61,13 @@ loop-less c = search needs
 
 loop-again : tie.Need-loop-again Inv-loop μ-loop
 loop-again c =
-    let found = c .before .before .before .before in
+    let found = c .before .before .before in
     let turn = found .before .before .before in
     let loop = turn .before .loop in (
       omega arith,
       passed-one _ _ (loop .counter) _ (loop .inv .1) (turn .loop-test .taken)
           (items-next _ _ (sym (found .before .before .next .ensures) ∙ found .field .given .1))
-          (rw (← c .before .before .value .ensures) (sym (c .before .is-level .ensures) ∙ not-false _ (c .if1 .left))),
+          (sym (c .before .has-parts .ensures) ∙ not-false _ (c .if1 .left)),
     )
 
 next-requires-2 : tie.Need-next-requires-2 Inv-loop μ-loop
@@ -104,8 +101,7 @@ ask-levels-spec =
     next-requires
     enum-known-field
     returns
-    value-requires
-    is-level-requires
+    has-parts-requires
     returns-2
     add-counter
     loop-less

@@ -1,9 +1,13 @@
--- `fit::count_outputs` meets its contract: each answer is what the tests before it make of question 3.
+-- `fit::count_outputs` meets its contract: each answer is what the test before it makes of question 3.
 use borrow.Author.Needs.{needs}
-use borrow.Author.Tests.{eq-eqb, ne-eqb, le-leb, lt-leb}
-use mathlib.Core.Path.{sym, _∙_}
-use mathlib.Core.Bool.{true, false, and-false}
+use borrow.Author.Tests.{not-true, not-false}
+use Prim.Native.Nat.{ℕ}
+use mathlib.Core.Path.{sym, ap, _∙_}
+use mathlib.Core.Bool.{true, false}
+use mathlib.Core.List.{List}
+use lib.ListN.{length}
 use Rattle.fields.proofs.Steps.{items-next, ended}
+use Rattle.table.specs.declared.fit.Outputs.the-variants.{Listed}
 use Rattle.table.proofs.Fits.{skipped, no-outputs, outputs-by}
 use Rattle.table.proofs.fit.count_outputs.Statement.{statement}
 use Rattle.table.proofs.fit.count_outputs.Tie as tie
@@ -26,36 +30,28 @@ returns c =
     no-outputs (skipped _ 1 (step .before .before .new .ensures) (step .before .skip .ensures))
     (ended _ _ _ (sym (step .next .ensures)) (c .match .keys2))
 
-value-requires : tie.Need-value-requires
-value-requires c κs = search needs
+has-parts-requires : tie.Need-has-parts-requires
+has-parts-requires c κs = search needs
 
 returns-2 : tie.Need-returns-2
 returns-2 c =
-    let v = c .before in
-    let step = v .before .before .before .before in
+    let found = c .before .before .before in
+    let step = found .before .before in
     outputs-by (skipped _ 1 (step .before .before .new .ensures) (step .before .skip .ensures))
-    (items-next _ _ (sym (step .next .ensures) ∙ v .before .before .field .given .1)) (v .value .ensures) false (simp (ne-eqb _ _ (c .if1 .taken)))
+    (items-next _ _ (sym (step .next .ensures) ∙ found .field .given .1)) false
+    (sym (c .before .has-parts .ensures) ∙ not-true _ (c .if1 .taken))
+
+value-requires : tie.Need-value-requires
+value-requires c κs = search needs
 
 returns-3 : tie.Need-returns-3
 returns-3 c =
-    let v = c .before .before in
-    let step = v .before .before .before .before in
-    outputs-by (skipped _ 1 (step .before .before .new .ensures) (step .before .skip .ensures))
-    (items-next _ _ (sym (step .next .ensures) ∙ v .before .before .field .given .1)) (v .value .ensures) false (simp (lt-leb _ _ (c .if2 .taken), and-false))
-
-returns-4 : tie.Need-returns-4
-returns-4 c =
-    let v = c .before .before .before in
-    let step = v .before .before .before .before in
-    outputs-by (skipped _ 1 (step .before .before .new .ensures) (step .before .skip .ensures))
-    (items-next _ _ (sym (step .next .ensures) ∙ v .before .before .field .given .1)) (v .value .ensures) false (simp (lt-leb _ _ (c .if3 .taken), and-false))
-
-returns-5 : tie.Need-returns-5
-returns-5 c =
-    let v = c .before .before .before in
-    let step = v .before .before .before .before in
-    outputs-by (skipped _ 1 (step .before .before .new .ensures) (step .before .skip .ensures))
-    (items-next _ _ (sym (step .next .ensures) ∙ v .before .before .field .given .1)) (v .value .ensures) true (simp (eq-eqb _ _ (c .before .before .if1 .left), le-leb _ _ (c .before .if2 .left), le-leb _ _ (c .if3 .left)))
+    let found = c .before .before .before .before in
+    let step = found .before .before in
+    ap (λ (v : List ℕ). Listed (length v)) (c .value .ensures)
+    ∙ outputs-by (skipped _ 1 (step .before .before .new .ensures) (step .before .skip .ensures))
+    (items-next _ _ (sym (step .next .ensures) ∙ found .field .given .1)) true
+    (sym (c .before .before .has-parts .ensures) ∙ not-false _ (c .before .if1 .left))
 
 pub count-outputs-spec : {M : Type 1} → statement M
 count-outputs-spec =
@@ -66,8 +62,7 @@ count-outputs-spec =
     next-requires
     enum-known-field
     returns
-    value-requires
+    has-parts-requires
     returns-2
-    returns-3
-    returns-4
-    returns-5)
+    value-requires
+    returns-3)

@@ -2,9 +2,10 @@
 use borrow.Author.Needs.{needs}
 use mathlib.Core.Path.{refl, sym, ap, _∙_}
 use mathlib.Core.List.{List}
-use lib.ListN.{getD, drop}
+use lib.ListN.{drop}
+use Rattle.files.specs.Header.{contactsOf}
 use Rattle.fields.specs.declared.Framing.the-variants.{Whole, Broken}
-use Rattle.fields.specs.Fields.{Item, fieldsOf, valueIn}
+use Rattle.fields.specs.Fields.{Item, fieldsOf}
 use Rattle.fields.specs.Refusals.{firstNo}
 use Rattle.files.specs.declared.header.Contacts.the-variants.{Counted, Uncounted}
 use Rattle.table.specs.declared.fit.Outputs.the-variants.{Listed, Unlisted}
@@ -79,7 +80,7 @@ returns-4 c =
     let second = sym (c .before .before .before .before .before .before .before .before .before .count-contacts .ensures) ∙ c .before .before .before .before .before .before .before .n .given .1 in
     let third = sym (c .before .before .before .before .before .count-outputs .ensures) ∙ c .before .before .before .enum-told4 .given .1 in
     let is = fieldsOf (c .before .before .before .before .before .before .before .before .before .before .before .before .before .before .args .file .now) .items in
-    let fourth = ap (λ (l : List Item). levelsIn (getD (valueIn l 0) 0 0) (drop 2 is)) (counted is _ second .split) ∙ sym (c .before .before .ask-levels .ensures) ∙ c .enum-told7 .given .1 in
+    let fourth = ap (λ (l : List Item). levelsIn (contactsOf l) (drop 2 is)) (counted is _ second .split) ∙ sym (c .before .before .ask-levels .ensures) ∙ c .enum-told7 .given .1 in
     fields-by _ Whole (Counted _) (Listed _) Lacking first second third fourth
 
 returns-5 : tie.Need-returns-5
@@ -89,7 +90,7 @@ returns-5 c =
     let second = sym (c .before .before .before .before .before .before .before .before .before .count-contacts .ensures) ∙ c .before .before .before .before .before .before .before .n .given .1 in
     let third = sym (c .before .before .before .before .before .count-outputs .ensures) ∙ c .before .before .before .enum-told4 .given .1 in
     let is = fieldsOf (c .before .before .before .before .before .before .before .before .before .before .before .before .before .before .args .file .now) .items in
-    let fourth = ap (λ (l : List Item). levelsIn (getD (valueIn l 0) 0 0) (drop 2 is)) (counted is _ second .split) ∙ sym (c .before .before .ask-levels .ensures) ∙ c .enum-told6 .given .1 in
+    let fourth = ap (λ (l : List Item). levelsIn (contactsOf l) (drop 2 is)) (counted is _ second .split) ∙ sym (c .before .before .ask-levels .ensures) ∙ c .enum-told6 .given .1 in
     fields-by _ Whole (Counted _) (Listed _) Given first second third fourth
 
 pub asked-of-fields-spec : {M : Type 1} → statement M

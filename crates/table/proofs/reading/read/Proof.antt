@@ -2,7 +2,8 @@
 use borrow.Author.Needs.{needs}
 use mathlib.Core.Path.{_≡_, sym, ap, _∙_}
 use Rattle.fields.specs.Fields.{fieldsOf}
-use Rattle.table.specs.Table.{diagramRefusal, diagramIn, tableOr}
+use Rattle.table.specs.Table.{diagramRefusal, diagramIn}
+use Rattle.table.specs.Inner.Read.{tableOr}
 use Rattle.table.proofs.Decoded.{diagram-is}
 use Rattle.table.proofs.Lent.{lent, has-levels, has-outputs}
 use Rattle.table.proofs.Tables.{table-by-fields, table-by-diagram, table-by-none}

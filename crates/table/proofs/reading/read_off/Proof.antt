@@ -8,7 +8,7 @@ use mathlib.Core.List.{List}
 use lib.Pow.{shl-exact}
 use Rattle.table.specs.declared.reading.Table.{Table}
 use Rattle.diagram.specs.Questions.{Sized}
-use Rattle.table.specs.Table.{tableOf, readingOf}
+use Rattle.table.specs.Inner.Read.{tableOf}
 use Rattle.table.proofs.Tables.{table-accepted, table-diagram, reading-refused, reading-outside, reading-inside}
 use Rattle.table.proofs.reading.read_off.Statement.{statement}
 use Rattle.table.proofs.reading.read_off.Tie as tie
@@ -26,11 +26,7 @@ read-requires : tie.Need-read-requires
 read-requires c κs = search needs
 
 returns : tie.Need-returns
-unfolding readingOf
-returns c =
-    let t = c .before .read in
-    let a = c .before .before .before .args .a in
-    reading-refused (t .result .refusal) (t .result .diagram) a (c .if1 .taken) ∙ ap (λ (t : Table). readingOf t a) (t .ensures)
+returns c = reading-refused _ (c .before .read .ensures) _ (c .if1 .taken)
 
 cast-if2 : tie.Need-cast-if2
 cast-if2 c = omega (arith, kept _ (c .before .read .ensures) (c .if1 .left) .contacts)
@@ -39,13 +35,11 @@ shl-if2 : tie.Need-shl-if2
 shl-if2 c = omega (arith, kept _ (c .before .read .ensures) (c .if1 .left) .contacts)
 
 returns-2 : tie.Need-returns-2
-unfolding readingOf
 returns-2 c =
     let t = c .before .before .read in
-    let a = c .before .before .before .before .args .a in
     let none = c .before .if1 .left in
     let e = one-shifted (t .result .diagram .contacts) (kept _ (t .ensures) none .contacts .1) in
-    reading-outside (t .result .refusal) (t .result .diagram) a none (rw e at (c .if2 .taken)) ∙ ap (λ (t : Table). readingOf t a) (t .ensures)
+    reading-outside _ (t .ensures) _ none (rw e at (c .if2 .taken))
 
 word-requires : tie.Need-word-requires
 word-requires c κs =
@@ -53,14 +47,12 @@ word-requires c κs =
     (limits .contacts .1, limits .outputs .1, omega (arith, limits .outputs, c .word-arg4 .given .0))
 
 returns-3 : tie.Need-returns-3
-unfolding readingOf
 returns-3 c =
     let t = c .before .before .before .before .before .before .before .before .read in
-    let a = c .before .before .before .before .before .before .before .before .before .before .args .a in
     let none = c .before .before .before .before .before .before .before .if1 .left in
     let e = one-shifted (t .result .diagram .contacts) (kept _ (t .ensures) none .contacts .1) in
     let w = c .word .ensures (t .result .diagram) refl refl (record { outputs = refl; roots = refl }) in
-    reading-inside (t .result .refusal) (t .result .diagram) a none (rw e at (c .before .before .before .before .before .before .if2 .left)) w ∙ ap (λ (t : Table). readingOf t a) (t .ensures)
+    reading-inside _ (t .ensures) _ none (rw e at (c .before .before .before .before .before .before .if2 .left)) w
 
 pub read-off-spec : {M : Type 1} → statement M
 read-off-spec =

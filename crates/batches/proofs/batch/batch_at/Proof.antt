@@ -1,0 +1,25 @@
+-- `batch::batch_at` meets its contract, by that of `number_at`.
+use borrow.Author.Needs.{needs}
+use mathlib.Core.Path.{ap}
+use lib.ListN.{getD}
+use Prim.Native.Nat.{ℕ}
+use Rattle.batches.proofs.batch.batch_at.Statement.{statement}
+use Rattle.batches.proofs.batch.batch_at.Tie as tie
+
+number-at-requires : tie.Need-number-at-requires
+number-at-requires c κs = search needs
+
+cast-result : tie.Need-cast-result
+cast-result c = search needs
+
+mul-result : tie.Need-mul-result
+mul-result c = search needs
+
+shared-slice-read-result : tie.Need-shared-slice-read-result
+shared-slice-read-result c = search needs
+
+returns : tie.Need-returns
+returns c = ap (λ (i : ℕ). getD (c .before .before .before .before .args .batches .now) i 0) (c .before .number-at .ensures)
+
+pub batch-at-spec : {M : Type 1} → statement M
+batch-at-spec = tie.close (tie.spec number-at-requires cast-result mul-result shared-slice-read-result returns)

@@ -1,0 +1,13 @@
+-- `batch::show_batch` meets its contract, by cases on the line.
+use borrow.Author.Tests.{eq-eqb, ne-eqb}
+use Rattle.batches.proofs.batch.show_batch.Statement.{statement}
+use Rattle.batches.proofs.batch.show_batch.Tie as tie
+
+returns : tie.Need-returns
+returns c = simp (eq-eqb _ _ (c .if1 .taken))
+
+returns-2 : tie.Need-returns-2
+returns-2 c = simp (ne-eqb _ _ (c .if1 .left))
+
+pub show-batch-spec : {M : Type 1} → statement M
+show-batch-spec = tie.close (tie.spec returns returns-2)

@@ -1,0 +1,16 @@
+-- The first no of several questions: where it is none, every answer is yes; where the first answer is no, it is that.
+use Prim.Native.Nat.{ℕ, zero, suc}
+use native.Mathlib.Omega.{arith}
+use mathlib.Core.Path.{_≡_, refl}
+use mathlib.Core.List.{List, _∷_}
+use Rattle.fields.specs.Refusals.{firstNo}
+
+pub first-yes : (k : ℕ) (ks : List ℕ) → firstNo (k ∷ ks) ≡ 0 → (k ≡ 0) × (firstNo ks ≡ 0)
+unfolding firstNo
+first-yes zero ks e = (refl, e)
+first-yes (suc k) ks e = absurd (omega arith)
+
+pub first-no : (k : ℕ) (ks : List ℕ) → (k ≡ 0 → ⊥) → firstNo (k ∷ ks) ≡ k
+unfolding firstNo
+first-no zero ks h = absurd (h refl)
+first-no (suc k) ks h = refl

@@ -1,0 +1,40 @@
+-- What the test of a field of whole parts says, and the fields that pass it.
+use borrow.Author.Tests.{leb-true, eqb-true, eq-eqb, le-leb}
+use Prim.Native.Nat.{ℕ, _/_, _%_, _≤_}
+use mathlib.Core.Path.{_≡_, refl}
+use mathlib.Core.Bool.{true, _&&_}
+use mathlib.Core.List.{List}
+use lib.Dec.{leb, eqb}
+use lib.ListN.{length}
+use Rattle.fields.specs.Fields.{Item}
+use Rattle.fields.specs.Refusals.{between}
+use Rattle.fields.proofs.Bounded.{and-left, and-right}
+use Rattle.files.specs.Header.{hasParts}
+use Rattle.files.proofs.Heads.{field, field-is}
+
+-- So many whole parts of a size.
+pub record HasParts (size low high : ℕ) (v : List ℕ) : Type 0 where
+  pub whole : length v % size ≡ 0
+  pub least : low ≤ length v / size
+  pub most : length v / size ≤ high
+
+pub has-parts : (tag size low high : ℕ) (i : Item) → hasParts tag size low high i ≡ true →
+    (i ≡ field tag (i .value)) × HasParts size low high (i .value)
+has-parts tag size low high i e =
+    let n = length (i .value) / size in
+    let a = eqb (i .tag) tag in
+    let b = eqb (length (i .value) % size) 0 in
+    let c = between low n high in
+    let f = and-left (a && b) c e in
+    let s = and-right (a && b) c e in (
+      field-is i (eqb-true _ _ (and-left a b f)) refl,
+      record {
+        whole = eqb-true _ _ (and-right a b f);
+        least = leb-true _ _ (and-left (leb low n) (leb n high) s);
+        most = leb-true _ _ (and-right (leb low n) (leb n high) s);
+      },
+    )
+
+pub whole-parts : (tag size low high : ℕ) (v : List ℕ) → length v % size ≡ 0 → low ≤ length v / size → length v / size ≤ high →
+    hasParts tag size low high (record { tag = tag; value = v }) ≡ true
+whole-parts tag size low high v w l m = simp (eq-eqb tag tag refl, eq-eqb _ _ w, le-leb _ _ l, le-leb _ _ m)

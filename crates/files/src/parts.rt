@@ -1,0 +1,41 @@
+// Fields whose values are whole parts of one size: outputs, edges, gates.
+use fields::Cursor;
+use fields::Field;
+use fields::Step;
+ghost use mathlib.Core.Path.{_≡_};
+ghost use Prim.Native.Nat.{_<_};
+ghost use Rattle.fields.specs.Fields.{fieldsOf, itemOf, valueOf, valueIn};
+ghost use Rattle.files.specs.Header.{hasParts};
+
+// Whether a field has a tag, and a value of whole parts of a size, so many at least and at most.
+pub fn has_parts(file: &[u8], field: Field, tag: u8, size: usize, least: usize, most: usize) -> bool
+    requires { ⌜ 0 < size ⌝ }
+    ensures { λ r. ⌜ r ≡ hasParts tag size least most (itemOf (now (file .entry)) field) ⌝ }
+{
+    let found = field.tag;
+    let len = fields::value(file, field).len();
+    if found != tag {
+        return false;
+    }
+    if len % size != 0 {
+        return false;
+    }
+    if len / size < least {
+        return false;
+    }
+    len / size <= most
+}
+
+// The field at a place in the sequence of fields; an empty one where there are not so many.
+pub fn field_at(file: &[u8], place: usize) -> Field
+    ensures { λ r. ⌜ valueOf (now (file .entry)) r ≡ valueIn (fieldsOf (now (file .entry)) .items) place ⌝ }
+{
+    let Step::Next(field, _) = Cursor::new().skip(file, place).next(file) else {
+        return Field {
+            tag: 0,
+            start: 0,
+            len: 0,
+        };
+    };
+    field
+}

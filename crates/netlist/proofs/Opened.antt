@@ -1,0 +1,92 @@
+-- What reading a netlist file gives, question by question, and what is known of the parts of one that is not refused.
+use native.Mathlib.Omega.{arith}
+use Prim.Native.Nat.{ℕ, zero, suc, _+_, _/_, _≤_}
+use mathlib.Core.Path.{_≡_, refl, sym, _∙_}
+use mathlib.Core.Bool.{true}
+use mathlib.Core.List.{List, [], _∷_}
+use lib.ListN.{length}
+use Rattle.fields.specs.Fields.{Item, fieldsOf, valueOf, valueIn}
+use Rattle.fields.specs.Refusals.{firstNo}
+use Rattle.fields.proofs.Bounded.{and-left, and-right}
+use Rattle.files.specs.Header.{contactsOf}
+use Rattle.netlist.specs.declared.form.Form.the-variants.{Formed, Unformed}
+use Rattle.netlist.specs.declared.wiring.Wiring.the-variants.{Sound, Unsound}
+use Rattle.netlist.specs.declared.reading.Parts.{Parts}
+use Rattle.netlist.specs.Netlist.{gateLine, netOf}
+use Rattle.netlist.specs.Questions.{formOf, areGates, arePairs, isSound, wiringOf, wiringNumber, netlistOf, netlistRefusal}
+use Rattle.netlist.specs.Inner.Read.{Read}
+use Rattle.netlist.proofs.Accepted.{well-formed, accepted}
+
+only : (k : ℕ) → firstNo (k ∷ []) ≡ k
+unfolding firstNo
+only zero = refl
+only (suc k) = refl
+
+-- The parts of a netlist file that is not refused.
+pub record Opened (file : List ℕ) (n : ℕ) (gates outputs : List ℕ) : Type 0 where
+  pub accepted : netlistRefusal file ≡ 0
+  pub contacts : n ≡ contactsOf (fieldsOf file .items)
+  pub gates-are : gates ≡ valueIn (fieldsOf file .items) 1
+  pub outputs-are : outputs ≡ valueIn (fieldsOf file .items) 2
+
+module _ (file : List ℕ) where
+  abbrev is : List Item
+  is = fieldsOf file .items
+
+  refused : {p : Parts} (k : ℕ) → netlistRefusal file ≡ suc k → p .refusal ≡ suc k → Read file p
+  refused k e r =
+      record {
+        refusal = r ∙ sym e;
+        contacts = λ z. absurd (omega arith);
+        gates = λ z. absurd (omega arith);
+        outputs = λ z. absurd (omega arith);
+      }
+
+  pub unformed : {p : Parts} → formOf (fieldsOf file) ≡ Unformed → p .refusal ≡ 11 → Read file p
+  unfolding netlistRefusal firstNo
+  unformed f r = refused 10 (rw f) r
+
+  -- Once question 11 has its yes.
+  module _ {n : ℕ} {gates outputs : List ℕ} (f : formOf (fieldsOf file) ≡ Formed n) (g : gates ≡ valueIn is 1) (o : outputs ≡ valueIn is 2) where
+    asked : netlistRefusal file ≡ wiringNumber (wiringOf n gates outputs)
+    unfolding netlistRefusal firstNo
+    asked = rw (f, g, o, well-formed (fieldsOf file) n f .contacts) (only _)
+
+    pub unsound : {p : Parts} → wiringOf n gates outputs ≡ Unsound → p .refusal ≡ 12 → Read file p
+    unsound w r = refused 11 (asked ∙ rw w) r
+
+    pub sound : {p : Parts} → wiringOf n gates outputs ≡ Sound → p .refusal ≡ 0 → p .contacts ≡ n → valueOf file (p .gates) ≡ gates →
+        valueOf file (p .outputs) ≡ outputs → Read file p
+    sound w r c h k =
+        record {
+          refusal = r ∙ sym (asked ∙ rw w);
+          contacts = λ _. c ∙ well-formed (fieldsOf file) n f .contacts;
+          gates = λ _. h ∙ g;
+          outputs = λ _. k ∙ o;
+        }
+
+  pub opened : {p : Parts} {gates outputs : List ℕ} → Read file p → p .refusal ≡ 0 → gates ≡ valueOf file (p .gates) →
+      outputs ≡ valueOf file (p .outputs) → Opened file (p .contacts) gates outputs
+  opened r z g o =
+      record { accepted = sym (r .refusal) ∙ z; contacts = r .contacts z; gates-are = g ∙ r .gates z; outputs-are = o ∙ r .outputs z }
+
+module _ {file : List ℕ} {n : ℕ} {gates outputs : List ℕ} (o : Opened file n gates outputs) where
+  pub net-is : netlistOf (fieldsOf file .items) ≡ netOf n gates outputs
+  unfolding netlistOf
+  net-is = rw (o .contacts, o .gates-are, o .outputs-are)
+
+  parts-sound : isSound n gates outputs ≡ true
+  unfolding netlistOf
+  parts-sound = rw (o .contacts, o .gates-are, o .outputs-are) (accepted file (o .accepted) .sound)
+
+  pub few-contacts : n ≤ 12
+  unfolding netlistOf
+  few-contacts = rw (o .contacts) (accepted file (o .accepted) .form .most)
+
+  pub gates-wired : areGates (gateLine n) gates ≡ true
+  unfolding isSound
+  gates-wired = and-left _ (arePairs (gateLine n + length gates / 5) outputs) parts-sound
+
+  pub outputs-wired : arePairs (gateLine n + length gates / 5) outputs ≡ true
+  unfolding isSound
+  outputs-wired = and-right (areGates (gateLine n) gates) _ parts-sound

@@ -1,0 +1,49 @@
+-- `file::put_file` meets its contract: three fields, one after another.
+use borrow.Author.Needs.{needs}
+use Rattle.netlist.proofs.Written.{file-written}
+use Rattle.netlist.proofs.file.put_file.Statement.{statement}
+use Rattle.netlist.proofs.file.put_file.Tie as tie
+
+cast-t6 : tie.Need-cast-t6
+cast-t6 c = search needs
+
+slice-aggregate-put-field : tie.Need-slice-aggregate-put-field
+slice-aggregate-put-field c = search needs
+
+put-field-requires : tie.Need-put-field-requires
+put-field-requires c κs = search needs
+
+put-field-requires-2 : tie.Need-put-field-requires-2
+put-field-requires-2 c κs = search needs
+
+add-put-field : tie.Need-add-put-field
+add-put-field c = search needs
+
+put-field-requires-3 : tie.Need-put-field-requires-3
+put-field-requires-3 c κs = search needs
+
+same-length : tie.Need-same-length
+same-length c = search needs
+
+returns : tie.Need-returns
+returns c =
+    let third = c .before .before in
+    let second = third .before .before .before .before in
+    let first = second .before .before .before .before in
+    let start = first .before .before .before .before .before .before in
+    let args = start .args in
+    file-written (args .n) (args .gates .now) (args .pairs .now) (args .file .now) (start .pre .1)
+    (first .put-field .ensures) (second .put-field2 .ensures) (third .put-field3 .ensures)
+
+pub put-file-spec : {M : Type 1} → statement M
+put-file-spec =
+    tie.close
+    (tie.spec
+    cast-t6
+    slice-aggregate-put-field
+    put-field-requires
+    put-field-requires-2
+    add-put-field
+    put-field-requires-3
+    same-length
+    returns)

@@ -1,0 +1,93 @@
+-- `reading::read` meets its contract: each answer is the case that the answers before it lead to.
+use borrow.Author.Needs.{needs}
+use mathlib.Core.Path.{_≡_, refl, sym, _∙_}
+use Rattle.fields.specs.Fields.{fieldsOf}
+use Rattle.netlist.specs.declared.form.Form.the-variants.{Formed}
+use Rattle.netlist.specs.Questions.{formOf}
+use Rattle.netlist.proofs.Accepted.{well-formed}
+use Rattle.netlist.proofs.Opened.{unformed, unsound, sound}
+use Rattle.netlist.proofs.reading.read.Statement.{statement}
+use Rattle.netlist.proofs.reading.read.Tie as tie
+
+-- Once question 11 has its yes.
+form : (c : tie.After-value2) →
+    formOf (fieldsOf (c .before .before .before .before .before .before .before .before .before .args .file .now))
+    ≡ Formed (c .before .before .before .before .before .n .given .0 .0)
+form c =
+    let known = c .before .before .before .before .before in
+    sym (known .before .before .ask-form .ensures) ∙ known .n .given .1
+
+ask-form-requires : tie.Need-ask-form-requires
+ask-form-requires c κs = search needs
+
+enum-known-n : tie.Need-enum-known-n
+enum-known-n c = search needs
+
+enum-told : tie.Need-enum-told
+enum-told c = search needs
+
+refused-requires : tie.Need-refused-requires
+refused-requires c κs = search needs
+
+returns : tie.Need-returns
+returns c = unformed _ (sym (c .before .before .before .ask-form .ensures) ∙ c .before .enum-told .given .1) (c .refused .ensures)
+
+field-at-requires : tie.Need-field-at-requires
+field-at-requires c κs = search needs
+
+field-at-requires-2 : tie.Need-field-at-requires-2
+field-at-requires-2 c κs = search needs
+
+value-requires : tie.Need-value-requires
+value-requires c κs = search needs
+
+value-requires-2 : tie.Need-value-requires-2
+value-requires-2 c κs = search needs
+
+ask-wiring-requires : tie.Need-ask-wiring-requires
+ask-wiring-requires c κs = well-formed _ _ (form c) .most
+
+enum-told-2 : tie.Need-enum-told-2
+enum-told-2 c = search needs
+
+enum-told-3 : tie.Need-enum-told-3
+enum-told-3 c = search needs
+
+refused-requires-2 : tie.Need-refused-requires-2
+refused-requires-2 c κs = search needs
+
+returns-2 : tie.Need-returns-2
+returns-2 c =
+    let w = c .before .before .before in
+    let v = w .before in
+    unsound _ (form v) (v .before .value .ensures ∙ v .before .before .before .field-at .ensures)
+    (v .value2 .ensures ∙ v .before .before .field-at2 .ensures) (sym (w .ask-wiring .ensures) ∙ c .before .enum-told3 .given .1)
+    (c .refused2 .ensures)
+
+returns-3 : tie.Need-returns-3
+returns-3 c =
+    let w = c .before .before in
+    let v = w .before in
+    sound _ (form v) (v .before .value .ensures ∙ v .before .before .before .field-at .ensures)
+    (v .value2 .ensures ∙ v .before .before .field-at2 .ensures) (sym (w .ask-wiring .ensures) ∙ c .enum-told2 .given .1)
+    refl refl (sym (v .before .value .ensures)) (sym (v .value2 .ensures))
+
+pub read-spec : {M : Type 1} → statement M
+read-spec =
+    tie.close
+    (tie.spec
+    ask-form-requires
+    enum-known-n
+    enum-told
+    refused-requires
+    returns
+    field-at-requires
+    field-at-requires-2
+    value-requires
+    value-requires-2
+    ask-wiring-requires
+    enum-told-2
+    enum-told-3
+    refused-requires-2
+    returns-2
+    returns-3)

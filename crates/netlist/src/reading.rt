@@ -1,0 +1,57 @@
+// A netlist file read under questions 11 and 12.
+use crate::form;
+use crate::form::Form;
+use crate::wiring;
+use crate::wiring::Wiring;
+use fields::Field;
+ghost use mathlib.Core.Path.{_≡_};
+ghost use Rattle.netlist.specs.Inner.Read.{Read};
+
+// A netlist's contacts and the fields of its gates and its outputs, or the number of the first question that it fails.
+pub struct Parts {
+    pub refusal: u32,
+    pub contacts: usize,
+    pub gates: Field,
+    pub outputs: Field,
+}
+
+// A refusal, with every other result zero.
+fn refused(number: u32) -> Parts
+    ensures { λ r. ⌜ r .refusal ≡ number ⌝ }
+{
+    let none = Field {
+        tag: 0,
+        start: 0,
+        len: 0,
+    };
+    Parts {
+        refusal: number,
+        contacts: 0,
+        gates: none,
+        outputs: none,
+    }
+}
+
+// The parts of a netlist file, under questions 11 and 12.
+pub fn read(file: &[u8]) -> Parts
+    ensures { λ r. ⌜ Read (now (file .entry)) r ⌝ }
+{
+    let Form::Formed(n) = form::ask_form(file) else {
+        return refused(11);
+    };
+    let gates = files::field_at(file, 1);
+    let outputs = files::field_at(file, 2);
+    let Wiring::Sound = wiring::ask_wiring(
+        n,
+        fields::value(file, gates),
+        fields::value(file, outputs),
+    ) else {
+        return refused(12);
+    };
+    Parts {
+        refusal: 0,
+        contacts: n,
+        gates: gates,
+        outputs: outputs,
+    }
+}
