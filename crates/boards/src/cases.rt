@@ -10,9 +10,9 @@
 //     g NAME: COUNT / ROOM / FROM / HOLDS / RAILS / PAIRS       the same, of a row of so many gates
 //     p NAME: TABLE / ROOM / FROM / HOLD                        a probe with a buffer that is shown from a place on
 use crate::probes;
+use listings::netlists;
 use text::print;
 use text::spelling;
-use views::netlists;
 use views::rows;
 use views::runs;
 use views::tables;

@@ -25,7 +25,7 @@ use Rattle.rules.specs.Board.{boardOf, depthsOf, depthOf, tableBoard}
 use Rattle.synthesis.specs.Service.{checkedOr, checkedOf, Building, buildRefusal, buildingOf}
 use Rattle.synthesis.specs.Inner.Writing.{writingOf}
 use Rattle.rules.proofs.Bounds.{sized-narrow, gates-most}
-use Rattle.synthesis.specs.Inner.Depths.{SourcesBelow}
+use Rattle.depths.specs.Inner.Depths.{SourcesBelow}
 use Rattle.products.proofs.Cells.{listed-from}
 use Rattle.rules.proofs.Depths.{depth-most}
 use Rattle.synthesis.proofs.Files.{gates-read}

@@ -1,6 +1,5 @@
 // From a diagram to its two-rail netlist, gate for gate.
 mod board;
-mod depth;
 mod service;
 
 pub use board::most_gates;

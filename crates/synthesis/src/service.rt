@@ -1,6 +1,5 @@
 // The services check and build.
 use crate::board;
-use crate::depth;
 use diagram::Diagram;
 use files::Room;
 ghost use mathlib.Core.Path.{_≡_};
@@ -36,7 +35,7 @@ fn measure(d: Diagram, gates: &mut [u8]) -> Checked
 {
     let mut pairs = [0u8; 32];
     let made = board::synthesise(d, gates, &mut pairs);
-    let depth = depth::depth_of(gates, made, d.contacts);
+    let depth = depths::depth_of(gates, made, d.contacts);
     Checked {
         refusal: 0,
         contacts: d.contacts as u32,

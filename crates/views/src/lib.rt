@@ -1,5 +1,4 @@
-// What a case shows of files, tables, netlists and runs.
-pub mod netlists;
+// What a case shows of files, tables and runs.
 pub mod rows;
 pub mod runs;
 pub mod tables;

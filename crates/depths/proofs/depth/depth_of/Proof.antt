@@ -3,9 +3,9 @@ use borrow.Author.Needs.{needs}
 use native.Mathlib.Omega.{arith}
 use Prim.Native.Nat.{_+_, _*_}
 use mathlib.Core.Path.{_∙_}
-use Rattle.synthesis.proofs.Scans.{zeros-taken, depth-from}
-use Rattle.synthesis.proofs.depth.depth_of.Statement.{statement}
-use Rattle.synthesis.proofs.depth.depth_of.Tie as tie
+use Rattle.depths.proofs.Scans.{zeros-taken, depth-from}
+use Rattle.depths.proofs.depth.depth_of.Statement.{statement}
+use Rattle.depths.proofs.depth.depth_of.Tie as tie
 
 mul-scan : tie.Need-mul-scan
 mul-scan c = search needs

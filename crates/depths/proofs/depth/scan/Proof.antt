@@ -5,9 +5,9 @@ use Prim.Native.Nat.{_+_, _≤_, _<_, _-_}
 use mathlib.Core.Path.{_≡_, refl}
 use lib.ListN.{length, take, length-set}
 use Rattle.netlist.specs.Netlist.{gateAt}
-use Rattle.synthesis.proofs.Scans.{Scanned, deeper, scan-none, scan-low, left-below, right-below, gate-depth, scan-more}
-use Rattle.synthesis.proofs.depth.scan.Statement.{statement}
-use Rattle.synthesis.proofs.depth.scan.Tie as tie
+use Rattle.depths.proofs.Scans.{Scanned, deeper, scan-none, scan-low, left-below, right-below, gate-depth, scan-more}
+use Rattle.depths.proofs.depth.scan.Statement.{statement}
+use Rattle.depths.proofs.depth.scan.Tie as tie
 
 abbrev Inv-loop : tie.InvT-loop
 Inv-loop gates count first depths₀ deepest₀ g₀ depths deepest g =

@@ -2,8 +2,8 @@
 use Prim.Native.Nat.{_-_, _≤_}
 use mathlib.Core.Logic.{⊎-elim}
 use borrow.Author.Needs.{needs}
-use Rattle.views.proofs.netlists.kept.Statement.{statement}
-use Rattle.views.proofs.netlists.kept.Tie as tie
+use Rattle.listings.proofs.netlists.kept.Statement.{statement}
+use Rattle.listings.proofs.netlists.kept.Tie as tie
 
 abbrev Inv-loop : tie.InvT-loop
 Inv-loop file len count₀ i₀ count i = count ≤ i

@@ -6,7 +6,7 @@ ghost use lib.ListN.{length, take, replicate};
 ghost use Rattle.netlist.specs.Netlist.{gateAt, netWith};
 ghost use Rattle.fields.specs.Bounded.{listed};
 ghost use Rattle.rules.specs.Board.{largest, depthOf};
-ghost use Rattle.synthesis.specs.Inner.Depths.{depthsFrom, SourcesBelow};
+ghost use Rattle.depths.specs.Inner.Depths.{depthsFrom, SourcesBelow};
 
 fn larger(a: u16, b: u16) -> u16
     ensures { λ r. ⌜ r ≡ max a b ⌝ }

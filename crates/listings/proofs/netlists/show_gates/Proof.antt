@@ -4,8 +4,8 @@ use Prim.Native.Nat.{_-_, _/_, _≤_}
 use mathlib.Core.Path.{_≡_}
 use borrow.Author.Needs.{needs}
 use lib.ListN.{length}
-use Rattle.views.proofs.netlists.show_gates.Statement.{statement}
-use Rattle.views.proofs.netlists.show_gates.Tie as tie
+use Rattle.listings.proofs.netlists.show_gates.Statement.{statement}
+use Rattle.listings.proofs.netlists.show_gates.Tie as tie
 
 abbrev Inv-loop : tie.InvT-loop
 Inv-loop gates contacts first g₀ g-end g = (g-end ≡ length gates / 5) × (first ≤ 512)

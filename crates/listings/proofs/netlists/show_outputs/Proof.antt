@@ -4,8 +4,8 @@ use Prim.Native.Nat.{_-_, _/_}
 use mathlib.Core.Path.{_≡_}
 use borrow.Author.Needs.{needs}
 use lib.ListN.{length}
-use Rattle.views.proofs.netlists.show_outputs.Statement.{statement}
-use Rattle.views.proofs.netlists.show_outputs.Tie as tie
+use Rattle.listings.proofs.netlists.show_outputs.Statement.{statement}
+use Rattle.listings.proofs.netlists.show_outputs.Tie as tie
 
 abbrev Inv-loop : tie.InvT-loop
 Inv-loop outputs j₀ t5 j-end j = j-end ≡ length outputs / 4

@@ -15,7 +15,7 @@ use Rattle.simulation.specs.Run.{Driver, gate, drive, workOut}
 use Rattle.fields.proofs.Listed.{listed-more}
 use Rattle.simulation.proofs.Runs.{run-more}
 use Rattle.rules.specs.Board.{largest, depthRule, depthsOf, depthOf}
-use Rattle.synthesis.specs.Inner.Depths.{depthsFrom, SourcesBelow}
+use Rattle.depths.specs.Inner.Depths.{depthsFrom, SourcesBelow}
 
 largest-more : (xs : List ℕ) (y : ℕ) → largest (xs ++ (y ∷ [])) ≡ max (largest xs) y
 largest-more [] y = omega arith

@@ -1,0 +1,4 @@
+// The depth of a netlist.
+mod depth;
+
+pub use depth::depth_of;

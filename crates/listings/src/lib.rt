@@ -1,0 +1,2 @@
+// What a case shows of what check says and of the netlist that build writes.
+pub mod netlists;
