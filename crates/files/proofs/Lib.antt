@@ -3,3 +3,4 @@ pub mod Written
 pub mod Buffers
 pub mod WholeParts
 pub mod Heads
+pub mod Writing

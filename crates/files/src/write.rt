@@ -1,4 +1,4 @@
-// Numbers and fields written one after another.
+// Numbers, bytes and fields written one after another.
 ghost use mathlib.Core.Path.{_≡_};
 ghost use mathlib.Core.List.{[], _∷_};
 ghost use Prim.Native.Nat.{_+_, _/_, _%_, _≤_, _<_};
@@ -16,7 +16,7 @@ pub fn put_number(out: &mut [u8], at: usize, x: u16)
 }
 
 // Copies bytes to a file, from a place on.
-fn copy(file: &mut [u8], at: usize, value: &[u8])
+pub fn copy(file: &mut [u8], at: usize, value: &[u8])
     requires { ⌜ at + length (now value) ≤ length (now file) ⌝ }
     ensures { λ _. ⌜ now (file .exit) ≡ sets (now (file .entry)) at (now (value .entry)) ⌝ }
 {

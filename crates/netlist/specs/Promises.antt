@@ -2,14 +2,14 @@
 use Prim.Native.Nat.{ℕ}
 use mathlib.Core.Path.{_≡_}
 use mathlib.Core.List.{List}
-use Rattle.fields.specs.Fields.{Bytes, fieldsOf}
+use Rattle.fields.specs.Fields.{Bytes}
 use Rattle.netlist.specs.Netlist.{Netlist, fileOf}
-use Rattle.netlist.specs.Questions.{netlistOf, netlistRefusal}
+use Rattle.netlist.specs.Questions.{netlistIn, netlistRefusal}
 
 -- What is written reads back as it was: the file of a netlist holds that netlist.
 abbrev pub NetlistReadsBack : Type 0
-NetlistReadsBack = (net : Netlist) → netlistOf (fieldsOf (fileOf net) .items) ≡ net
+NetlistReadsBack = (net : Netlist) → netlistIn (fileOf net) ≡ net
 
 -- What was read is written as it was: a file of bytes that questions 11 and 12 accept is the file of the netlist that it holds.
 abbrev pub NetlistWritesBack : Type 0
-NetlistWritesBack = (file : List ℕ) → Bytes file → netlistRefusal file ≡ 0 → fileOf (netlistOf (fieldsOf file .items)) ≡ file
+NetlistWritesBack = (file : List ℕ) → Bytes file → netlistRefusal file ≡ 0 → fileOf (netlistIn file) ≡ file

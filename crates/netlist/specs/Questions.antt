@@ -101,9 +101,12 @@ abbrev pub holdsNumber : Holds → ℕ
 holdsNumber Ordered = 0
 holdsNumber Disordered = 14
 
--- The netlist that the fields hold.
+-- The netlist that the fields hold, and that in a file.
 unfoldable pub netlistOf : List Item → Netlist
 netlistOf is = netOf (contactsOf is) (valueIn is 1) (valueIn is 2)
+
+abbrev pub netlistIn : List ℕ → Netlist
+netlistIn file = netlistOf (fieldsOf file .items)
 
 -- Questions 11 and 12 about a netlist file.
 unfoldable pub netlistRefusal : List ℕ → ℕ

@@ -6,13 +6,14 @@ use mathlib.Core.List.{List}
 use Rattle.diagram.specs.declared.Diagram.{Diagram}
 use lib.ListN.{length}
 use Rattle.fields.specs.Fields.{fieldsOf}
+use Rattle.files.proofs.Writing.{refused-writing}
 use Rattle.table.specs.Table.{diagramIn, tableRefusal, readRefusal, readingOr, readingOf}
 use Rattle.netlist.specs.declared.Hold.{Hold}
-use Rattle.netlist.specs.Netlist.{Netlist, holdAt}
+use Rattle.netlist.specs.Netlist.{Netlist, holdAt, fileOf}
 use Rattle.netlist.specs.Questions.{netlistOf}
 use Rattle.simulation.specs.Service.{runRefusal, ranOr, runOf}
 use Rattle.rules.specs.Board.{tableBoard}
-use Rattle.synthesis.specs.Service.{checkedOr, checkedOf, buildRefusal, buildingOr, buildingOf}
+use Rattle.synthesis.specs.Service.{checkedOr, checkedOf, buildingOf}
 use Rattle.rules.proofs.Promises.{within-formulas, built-files-pass, right-code, different-netlists}
 use Rattle.probe.specs.Service.{probeRefusal, probingOr, probingOf}
 use Rattle.faults.proofs.Promises.{no-wrong-lines, run-writes, no-unseen-line}
@@ -24,11 +25,6 @@ check-refused : (r : ℕ) (net : Netlist) (k : ℕ) → checkedOr r net .refusal
     let c = checkedOr r net in (c .contacts ≡ 0) × (c .outputs ≡ 0) × (c .gates ≡ 0) × (c .depth ≡ 0)
 check-refused zero net k e = absurd (omega arith)
 check-refused (suc r) net k e = (refl, refl, refl, refl)
-
-build-refused : (r : ℕ) (net : Netlist) (buffer : List ℕ) (k : ℕ) → buildingOr r net buffer .refusal ≡ suc k →
-    (buildingOr r net buffer .length ≡ 0) × (buildingOr r net buffer .file ≡ buffer)
-build-refused zero net buffer k e = absurd (omega arith)
-build-refused (suc r) net buffer k e = (refl, refl)
 
 read-refused : (r : ℕ) (d : Diagram) (a k : ℕ) → readingOr r d a .refusal ≡ suc k → readingOr r d a .word ≡ 0
 read-refused zero d a k e = absurd (omega arith)
@@ -50,7 +46,7 @@ unfolding checkedOf buildingOf readingOf runOf probingOf probeOf
 refusals =
     record {
       check = λ table. check-refused (tableRefusal table) (tableBoard table);
-      build = λ table buffer. build-refused (buildRefusal table (length buffer)) (tableBoard table) buffer;
+      build = λ table buffer. refused-writing (tableRefusal table) (fileOf (tableBoard table)) buffer;
       readOff = λ table a. read-refused (readRefusal table a) (diagramIn table) a;
       run = λ netlist rails holds lines pairs.
           run-refused (runRefusal netlist rails holds (length lines) (length pairs)) (netlistOf (fieldsOf netlist .items)) rails holds lines pairs;

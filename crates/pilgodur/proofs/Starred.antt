@@ -16,13 +16,14 @@ use Rattle.rules.specs.Make.{_>>=_, sequence}
 use Rattle.rules.specs.Blocks.{cutWithin, cut, term, orTree, joined, productEntry, product, levelMatrix, block}
 use Rattle.rules.specs.Board.{wholeBlock, boardOf, depthsOf, depthOf}
 use Rattle.rules.specs.Code.{codeRails}
-use Rattle.synthesis.specs.Service.{checkedOf, buildRefusal, buildingOf}
+use Rattle.files.specs.Room.{writingOf}
+use Rattle.synthesis.specs.Service.{checkedOf, buildingOf}
 use Rattle.faults.specs.Betrayal.{stuckAt, noCode, betrays}
 use Rattle.probe.specs.Service.{probeRefusal, probingOf}
 use Rattle.pilgodur.specs.Answers.{probeOf}
 use mathlib.Core.List.{flatMap}
 
 pub all-starred : AllHold starred
-unfolding all any stepAt valueOf fieldsWithin fieldsFrom fieldsOf encoded contactsIn firstNo width edgeAt root inputOf inRange distinct mention mentions brought numbered branching outputsIn areLevels padded diagramOf fieldsRefusal diagramRefusal tableRefusal listed gatesOf pairsOf holdsOf fileOf fileWith drive workOut held valuesOf shownOf areParts formOf isSound areOrdered netlistOf netlistRefusal runRefusal runOf _>>=_ sequence cutWithin cut term orTree joined productEntry product levelMatrix block wholeBlock boardOf depthsOf depthOf codeRails checkedOf buildRefusal buildingOf stuckAt noCode betrays leastFrom probeRefusal probingOf probeOf flatMap
+unfolding all any stepAt valueOf fieldsWithin fieldsFrom fieldsOf encoded contactsIn firstNo width edgeAt root inputOf inRange distinct mention mentions brought numbered branching outputsIn areLevels padded diagramOf fieldsRefusal diagramRefusal tableRefusal listed gatesOf pairsOf holdsOf fileOf fileWith drive workOut held valuesOf shownOf areParts formOf isSound areOrdered netlistOf netlistRefusal runRefusal runOf _>>=_ sequence cutWithin cut term orTree joined productEntry product levelMatrix block wholeBlock boardOf depthsOf depthOf codeRails checkedOf writingOf buildingOf stuckAt noCode betrays leastFrom probeRefusal probingOf probeOf flatMap
 all-starred =
     (refl, ((refl, refl, refl), ((refl, refl), ((refl, refl), ((refl, refl, refl, refl), ((refl, refl, refl, refl), ((refl, refl), (refl, ((refl, refl, refl), (refl, (refl, (refl, (refl, ((refl, refl, refl), tt))))))))))))))

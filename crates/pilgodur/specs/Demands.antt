@@ -20,7 +20,7 @@ pub record Refusals : Type 0 where
   pub check : (table : List ℕ) (k : ℕ) → checkedOf table .refusal ≡ suc k →
       (checkedOf table .contacts ≡ 0) × (checkedOf table .outputs ≡ 0) × (checkedOf table .gates ≡ 0) × (checkedOf table .depth ≡ 0)
   pub build : (table buffer : List ℕ) (k : ℕ) → buildingOf table buffer .refusal ≡ suc k →
-      (buildingOf table buffer .length ≡ 0) × (buildingOf table buffer .file ≡ buffer)
+      (buildingOf table buffer .length ≡ 0) × (buildingOf table buffer .buffer ≡ buffer)
   pub readOff : (table : List ℕ) (a k : ℕ) → readingOf table a .refusal ≡ suc k → readingOf table a .word ≡ 0
   pub run : (netlist rails holds lines pairs : List ℕ) (k : ℕ) → runOf netlist rails holds lines pairs .refusal ≡ suc k →
       (runOf netlist rails holds lines pairs .lines ≡ lines) × (runOf netlist rails holds lines pairs .pairs ≡ pairs)

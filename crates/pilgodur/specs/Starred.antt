@@ -23,7 +23,7 @@ abbrev pub Answered : Case → Type 0
 Answered (checks table refusal contacts outputs gates depth) =
     checkedOf table ≡ record { refusal = refusal; contacts = contacts; outputs = outputs; gates = gates; depth = depth }
 Answered (builds table length file) =
-    let b = buildingOf table (replicate length 0) in (b .refusal ≡ 0) × (b .length ≡ length) × (b .file ≡ file)
+    let b = buildingOf table (replicate length 0) in (b .refusal ≡ 0) × (b .length ≡ length) × (b .buffer ≡ file)
 Answered (runs netlist rails holds pairs) =
     let r = runOf netlist rails holds (replicate 17 0) (replicate 2 0) in (r .refusal ≡ 0) × (r .pairs ≡ pairs)
 Answered (probes table hold input output way) =

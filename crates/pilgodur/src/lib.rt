@@ -1,6 +1,6 @@
 // The five services for C. include/pilgodur.h has their prototypes; a byte string is a pointer and then a length there.
+use files::Written;
 use probe::Way;
-use synthesis::Built;
 use synthesis::Checked;
 use table::Reading;
 ghost use mathlib.Core.Path.{_≡_};
@@ -28,8 +28,8 @@ pub extern "C" fn pilgodur_check(table: &[u8]) -> Checked
 
 // Builds a table's netlist: questions 1 to 8, then 9; the file's bytes and its length.
 #[no_mangle]
-pub extern "C" fn pilgodur_build(table: &[u8], file: &mut [u8]) -> Built
-    ensures { λ r. ⌜ record { refusal = r .refusal; length = r .length; file = now (file .exit) }
+pub extern "C" fn pilgodur_build(table: &[u8], file: &mut [u8]) -> Written
+    ensures { λ r. ⌜ record { refusal = r .refusal; length = r .length; buffer = now (file .exit) }
         ≡ buildingOf (now (table .entry)) (now (file .entry)) ⌝ }
 {
     synthesis::build(table, file)

@@ -3,13 +3,13 @@ use Prim.Native.Nat.{ℕ, _+_, _*_, _-_, _≤_, _<_}
 use mathlib.Core.Path.{_≡_}
 use mathlib.Core.List.{List, []}
 use lib.ListN.{length, getD}
-use Rattle.fields.specs.Fields.{Bytes, fieldsOf}
+use Rattle.fields.specs.Fields.{Bytes}
 use Rattle.diagram.specs.Diagram.{Input, valueAt}
 use Rattle.table.specs.Promises.{Accepted}
 use Rattle.table.specs.Table.{diagramIn}
 use Rattle.netlist.specs.Netlist.{fileOf}
 use Rattle.simulation.specs.Run.{valuesOf, shownBy}
-use Rattle.netlist.specs.Questions.{netlistOf, netlistRefusal}
+use Rattle.netlist.specs.Questions.{netlistIn, netlistRefusal}
 use Rattle.rules.specs.Board.{depthOf, tableBoard}
 use Rattle.rules.specs.Code.{codeRails}
 use Rattle.rules.specs.Formulas.{gatesMost, depthMost}
@@ -27,7 +27,7 @@ abbrev pub BuiltFilesPass : Type 0
 BuiltFilesPass =
     (table : List ℕ) → Accepted table →
     let file = fileOf (tableBoard table) in
-    Bytes file × (netlistRefusal file ≡ 0) × (netlistOf (fieldsOf file .items) ≡ tableBoard table)
+    Bytes file × (netlistRefusal file ≡ 0) × (netlistIn file ≡ tableBoard table)
 
 -- At every code input each permit pair shows the table's value and its opposite.
 abbrev pub RightCode : Type 0

@@ -2,11 +2,10 @@
 use Prim.Native.Nat.{ℕ, zero, suc, _*_}
 use mathlib.Core.List.{List, [], _∷_}
 use lib.ListN.{length}
-use Rattle.fields.specs.Fields.{fieldsOf}
 use Rattle.fields.specs.Refusals.{firstNo}
 use Rattle.files.specs.Room.{roomOf, roomNumber, over}
 use Rattle.netlist.specs.Netlist.{Netlist, holdsOf, lineCount}
-use Rattle.netlist.specs.Questions.{railsOf, railsNumber, orderOf, holdsNumber, netlistOf, netlistRefusal}
+use Rattle.netlist.specs.Questions.{railsOf, railsNumber, orderOf, holdsNumber, netlistIn, netlistRefusal}
 use Rattle.simulation.specs.Run.{valuesOf, shownBy}
 
 -- What a run returns, and what it leaves in the two lent buffers.
@@ -18,7 +17,7 @@ pub record Ran : Type 0 where
 -- Questions 11, 12, 13, 14 and 9, in this sequence.
 unfoldable pub runRefusal : List ℕ → List ℕ → List ℕ → ℕ → ℕ → ℕ
 runRefusal file rails holds lines pairs =
-    let net = netlistOf (fieldsOf file .items) in
+    let net = netlistIn file in
     firstNo
     (netlistRefusal file
     ∷ railsNumber (railsOf (net .contacts) rails)
@@ -36,4 +35,4 @@ ranOr (suc k) net rails holds lines pairs = record { refusal = suc k; lines = li
 
 unfoldable pub runOf : List ℕ → List ℕ → List ℕ → List ℕ → List ℕ → Ran
 runOf file rails holds lines pairs =
-    ranOr (runRefusal file rails holds (length lines) (length pairs)) (netlistOf (fieldsOf file .items)) rails holds lines pairs
+    ranOr (runRefusal file rails holds (length lines) (length pairs)) (netlistIn file) rails holds lines pairs

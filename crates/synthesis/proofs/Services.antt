@@ -3,10 +3,9 @@ use Prim.Native.Nat.{ℕ, zero, suc, _+_, _*_, _≤_}
 use native.Mathlib.Omega.{arith}
 use mathlib.Core.Path.{_≡_, refl, sym, ap, ap₂, _∙_}
 use mathlib.Core.Bool.{true}
-use mathlib.Core.List.{List, [], _∷_, flatMap}
+use mathlib.Core.List.{List, [], flatMap}
 use lib.ListN.{length, getD, take}
 use lib.Seq.{sets}
-use Rattle.fields.specs.Refusals.{firstNo}
 use Rattle.diagram.specs.declared.Diagram.{Diagram}
 use Rattle.table.specs.declared.reading.Table.{Table}
 use Rattle.diagram.specs.Questions.{Sized, inRange}
@@ -14,16 +13,14 @@ use Rattle.table.specs.Table.{tableRefusal, diagramIn}
 use Rattle.table.specs.Inner.Read.{tableOf}
 use Rattle.table.proofs.Tables.{table-refusal, table-accepted, table-diagram}
 use Rattle.netlist.specs.declared.Gate.{Gate}
-use Rattle.files.specs.declared.room.Room.{Room}
 use Rattle.files.specs.declared.room.Room.the-variants.{Enough, Short}
 use Rattle.netlist.specs.Netlist.{Netlist, gateLine, gateAt, gateBytes, pairBytes, netWith, fileOf, fileWith}
 use Rattle.fields.specs.Bounded.{listed}
-use Rattle.files.specs.Room.{over, roomOf, roomNumber}
+use Rattle.files.specs.Room.{over, roomOf}
 use Rattle.netlist.proofs.Files.{file-length, length-gate-bytes, length-pair-bytes}
 use Rattle.synthesis.specs.declared.service.Checked.{Checked}
 use Rattle.rules.specs.Board.{boardOf, depthsOf, depthOf, tableBoard}
-use Rattle.synthesis.specs.Service.{checkedOr, checkedOf, Building, buildRefusal, buildingOf}
-use Rattle.synthesis.specs.Inner.Writing.{writingOf}
+use Rattle.synthesis.specs.Service.{checkedOr, checkedOf, buildingOf}
 use Rattle.rules.proofs.Bounds.{sized-narrow, gates-most}
 use Rattle.depths.specs.Inner.Depths.{SourcesBelow}
 use Rattle.products.proofs.Cells.{listed-from}
@@ -31,6 +28,7 @@ use Rattle.rules.proofs.Depths.{depth-most}
 use Rattle.synthesis.proofs.Files.{gates-read}
 use Rattle.netlist.proofs.Written.{file-of}
 use Rattle.files.proofs.Buffers.{taken-back}
+use Rattle.files.proofs.Writing.{Writes, refused-before, too-short, written-whole}
 use Rattle.rules.proofs.Makes.{anyGate}
 use Rattle.rules.proofs.Pairs.{pairs-length}
 use Rattle.rules.proofs.Wired.{gates-wired}
@@ -43,31 +41,14 @@ pub record Unrefused (table : List ℕ) (d : Diagram) : Type 0 where
   pub ranged : inRange d ≡ true
   pub few : length (boardOf d .gates) ≤ 10560
 
-last-no : (r : Room) → firstNo (roomNumber r ∷ []) ≡ roomNumber r
-unfolding firstNo
-last-no Enough = refl
-last-no Short = refl
-
 refused-check : (k : ℕ) (net : Netlist) → (k ≡ 0 → ⊥) →
     record { refusal = k; contacts = 0; outputs = 0; gates = 0; depth = 0 } ≡ checkedOr k net
 refused-check zero net h = absurd (h refl)
 refused-check (suc k) net h = refl
 
-abbrev building : ℕ → ℕ → List ℕ → Building
-building k n after = record { refusal = k; length = n; file = after }
-
 -- What build returns, and what it leaves in the buffer.
 abbrev pub Builds : List ℕ → List ℕ → ℕ → ℕ → List ℕ → Type 0
-Builds table buffer k n after = building k n after ≡ buildingOf table buffer
-
-pub answered : (table buffer : List ℕ) {after : List ℕ} {j k m n : ℕ} → (k ≡ j) × (n ≡ m) → Builds table buffer j m after →
-    Builds table buffer k n after
-answered table buffer {after} e b = ap₂ (λ (k n : ℕ). building k n after) (e .0) (e .1) ∙ b
-
-refused-build : (table buffer : List ℕ) (k : ℕ) → tableRefusal table ≡ k → (k ≡ 0 → ⊥) → Builds table buffer k 0 buffer
-unfolding buildingOf buildRefusal firstNo
-refused-build table buffer zero e h = absurd (h refl)
-refused-build table buffer (suc k) e h = rw e
+Builds table buffer k n after = record { refusal = k; length = n; buffer = after } ≡ buildingOf table buffer
 
 module _ (table : List ℕ) {t : Table} (e : t ≡ tableOf table) where
   refusal-is : t .refusal ≡ tableRefusal table
@@ -93,12 +74,10 @@ module _ (table : List ℕ) {t : Table} (e : t ≡ tableOf table) where
   check-refused h =
       refused-check (t .refusal) (tableBoard table) h ∙ ap (λ (k : ℕ). checkedOr k (tableBoard table)) refusal-is
 
-  pub build-refused : (buffer : List ℕ) → (t .refusal ≡ 0 → ⊥) → Builds table buffer (t .refusal) 0 buffer
-  build-refused buffer h = refused-build table buffer (t .refusal) (sym refusal-is) h
-
--- What build leaves of a board.
-abbrev pub Writes : Netlist → List ℕ → ℕ → ℕ → List ℕ → Type 0
-Writes net buffer k n after = building k n after ≡ writingOf net buffer
+  pub build-refused : (buffer : List ℕ) {k n : ℕ} → (t .refusal ≡ 0 → ⊥) → (k ≡ t .refusal) × (n ≡ 0) → Builds table buffer k n buffer
+  unfolding buildingOf
+  build-refused buffer h a =
+      rw (← refusal-is) (refused-before (fileOf (tableBoard table)) buffer h a)
 
 -- The board of a diagram, made in buffers with room for it.
 module _ (d : Diagram) (sized : Sized d) {made : ℕ} (count : made ≡ length (boardOf d .gates)) where
@@ -166,17 +145,14 @@ module _ (d : Diagram) (sized : Sized d) {made : ℕ} (count : made ≡ length (
 
   module _ (buffer : List ℕ) where
     pub write-short : {k n : ℕ} → (k ≡ 9) × (n ≡ 0) → roomOf (10 + 5 * made + 4 * d .outputs) (length buffer) ≡ Short →
-        Writes (boardOf d) buffer k n buffer
-    write-short a e =
-        let short : roomOf (length (fileOf (boardOf d))) (length buffer) ≡ Short = rw length-is at e in
-        rw short (ap₂ (λ (k n : ℕ). building k n buffer) (a .0) (a .1))
+        Writes (fileOf (boardOf d)) buffer 0 k n buffer
+    write-short a e = too-short (fileOf (boardOf d)) buffer (rw length-is at e) a
 
     pub write-done : {after whole : List ℕ} → whole ≡ fileOf (boardOf d) →
         roomOf (10 + 5 * made + 4 * d .outputs) (length buffer) ≡ Enough → after ≡ over whole buffer →
-        Writes (boardOf d) buffer 0 (10 + 5 * made + 4 * d .outputs) after
+        Writes (fileOf (boardOf d)) buffer 0 0 (10 + 5 * made + 4 * d .outputs) after
     write-done w e a =
-        let enough : roomOf (length (fileOf (boardOf d))) (length buffer) ≡ Enough = rw length-is at e in
-        rw enough (ap₂ (building 0) length-is (a ∙ ap (λ (ws : List ℕ). over ws buffer) w))
+        written-whole (fileOf (boardOf d)) buffer (rw length-is at e) length-is (a ∙ ap (λ (ws : List ℕ). over ws buffer) w)
 
 -- Once the table has its yes, the answers are those of its diagram's board.
 module _ {table : List ℕ} {d : Diagram} (u : Unrefused table d) where
@@ -187,8 +163,7 @@ module _ {table : List ℕ} {d : Diagram} (u : Unrefused table d) where
   unfolding checkedOf
   check-done e = e ∙ ap (checkedOr 0) board-is ∙ ap (λ (k : ℕ). checkedOr k (tableBoard table)) (sym (u .yes))
 
-  pub build-done : (buffer : List ℕ) {k n : ℕ} {after : List ℕ} → Writes (boardOf d) buffer k n after → Builds table buffer k n after
-  unfolding buildingOf buildRefusal firstNo
-  build-done buffer w =
-      let room = roomOf (length (fileOf (tableBoard table))) (length buffer) in
-      rw (u .yes, last-no room) (rw board-is at w)
+  pub build-done : (buffer : List ℕ) {k n : ℕ} {after : List ℕ} → Writes (fileOf (boardOf d)) buffer 0 k n after →
+      Builds table buffer k n after
+  unfolding buildingOf
+  build-done buffer w = rw (u .yes, ← board-is) w

@@ -1,2 +1,1 @@
 pub mod Service
-pub mod Inner

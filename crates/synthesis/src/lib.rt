@@ -4,7 +4,6 @@ mod service;
 
 pub use board::most_gates;
 pub use board::synthesise;
-pub use service::Built;
 pub use service::Checked;
 pub use service::build;
 pub use service::check;

@@ -2,14 +2,16 @@
 use crate::board;
 use diagram::Diagram;
 use files::Room;
+use files::Written;
 ghost use mathlib.Core.Path.{_≡_};
 ghost use mathlib.Core.Bool.{true};
 ghost use Prim.Native.Nat.{_*_, _≤_};
 ghost use lib.ListN.{length};
+ghost use Rattle.files.specs.Room.{writingOf};
 ghost use Rattle.diagram.specs.Questions.{Sized, inRange};
+ghost use Rattle.netlist.specs.Netlist.{fileOf};
 ghost use Rattle.rules.specs.Board.{boardOf};
 ghost use Rattle.synthesis.specs.Service.{checkedOr, checkedOf, buildingOf};
-ghost use Rattle.synthesis.specs.Inner.Writing.{writingOf};
 
 // What check returns: a table's contacts and outputs and its netlist's gates and depth, or the refusal.
 #[repr(C)]
@@ -19,13 +21,6 @@ pub struct Checked {
     pub outputs: u32,
     pub gates: u32,
     pub depth: u32,
-}
-
-// What build returns: the file's length, or the refusal.
-#[repr(C)]
-pub struct Built {
-    pub refusal: u32,
-    pub length: u32,
 }
 
 // What check returns of an accepted table's diagram; its board's gates are written to the buffer.
@@ -75,32 +70,22 @@ pub fn check(table: &[u8]) -> Checked
     measure(d, &mut gates)
 }
 
-// A refusal, with the length zero.
-fn refused(number: u32) -> Built
-    ensures { λ r. ⌜ (r .refusal ≡ number) × (r .length ≡ 0) ⌝ }
-{
-    Built {
-        refusal: number,
-        length: 0,
-    }
-}
-
 // Writes the file of an accepted table's netlist from the start of the lent buffer, if there is room; its gates are first written
 // to a buffer of their own.
-fn write(d: Diagram, gates: &mut [u8], file: &mut [u8]) -> Built
+fn write(d: Diagram, gates: &mut [u8], file: &mut [u8]) -> Written
     requires { ⌜ Sized d × (inRange d ≡ true) × (5 * length (boardOf d .gates) ≤ length (now gates)) ⌝ }
-    ensures { λ r. ⌜ record { refusal = r .refusal; length = r .length; file = now (file .exit) }
-        ≡ writingOf (boardOf d) (now (file .entry)) ⌝ }
+    ensures { λ r. ⌜ record { refusal = r .refusal; length = r .length; buffer = now (file .exit) }
+        ≡ writingOf 0 (fileOf (boardOf d)) (now (file .entry)) ⌝ }
 {
     let mut pairs = [0u8; 32];
     let gate_bytes = 5 * board::synthesise(d, gates, &mut pairs);
     let pair_bytes = 4 * d.outputs;
     let length = 10 + gate_bytes + pair_bytes;
     let Room::Enough = files::ask_room(length, file.len()) else {
-        return refused(9);
+        return files::refused(9);
     };
     netlist::put_file(file, d.contacts, &gates[..gate_bytes], &pairs[..pair_bytes]);
-    Built {
+    Written {
         refusal: 0,
         length: length as u32,
     }
@@ -108,14 +93,14 @@ fn write(d: Diagram, gates: &mut [u8], file: &mut [u8]) -> Built
 
 // Writes the file of a table's netlist from the start of the lent buffer and returns its length; a refusal leaves the buffer as it
 // came. The buffer for the gates is as in check.
-pub fn build(table: &[u8], file: &mut [u8]) -> Built
-    ensures { λ r. ⌜ record { refusal = r .refusal; length = r .length; file = now (file .exit) }
+pub fn build(table: &[u8], file: &mut [u8]) -> Written
+    ensures { λ r. ⌜ record { refusal = r .refusal; length = r .length; buffer = now (file .exit) }
         ≡ buildingOf (now (table .entry)) (now (file .entry)) ⌝ }
 {
     let read = table::read(table);
     let refusal = read.refusal;
     if refusal != 0 {
-        return refused(refusal);
+        return files::refused(refusal);
     }
     let d = read.diagram;
     let most = board::most_gates(d);

@@ -1,7 +1,7 @@
 -- `service::build` meets its contract: each return is the case of `buildingOf` that the table's refusal leads to.
 use borrow.Author.Needs.{needs}
 use native.Mathlib.Omega.{arith}
-use Rattle.synthesis.proofs.Services.{Unrefused, unrefused, answered, build-refused, build-done}
+use Rattle.synthesis.proofs.Services.{Unrefused, unrefused, build-refused, build-done}
 use Rattle.synthesis.proofs.service.build.Statement.{statement}
 use Rattle.synthesis.proofs.service.build.Tie as tie
 
@@ -18,7 +18,7 @@ refused-requires c κs = search needs
 returns : tie.Need-returns
 returns c =
     let then = c .before in
-    answered _ _ (c .refused .ensures) (build-refused _ (then .before .read .ensures) _ (then .if1 .taken))
+    build-refused _ (then .before .read .ensures) _ (then .if1 .taken) (c .refused .ensures)
 
 most-gates-requires : tie.Need-most-gates-requires
 most-gates-requires c κs = kept c .sized

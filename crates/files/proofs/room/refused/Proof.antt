@@ -1,0 +1,10 @@
+-- `room::refused` meets its contract.
+use mathlib.Core.Path.{refl}
+use Rattle.files.proofs.room.refused.Statement.{statement}
+use Rattle.files.proofs.room.refused.Tie as tie
+
+returns : tie.Need-returns
+returns c = (refl, refl)
+
+pub refused-spec : {M : Type 1} → statement M
+refused-spec = tie.close (tie.spec returns)
