@@ -16,6 +16,7 @@ use Rattle.netlist.specs.Netlist.{gateLine, netOf}
 use Rattle.netlist.specs.Questions.{formOf, areGates, arePairs, isSound, wiringOf, wiringNumber, netlistOf, netlistRefusal}
 use Rattle.netlist.specs.Inner.Read.{Read}
 use Rattle.netlist.proofs.Accepted.{well-formed, accepted}
+use Rattle.netlist.proofs.Tests.{Bounds}
 
 only : (k : ℕ) → firstNo (k ∷ []) ≡ k
 unfolding firstNo
@@ -90,3 +91,6 @@ module _ {file : List ℕ} {n : ℕ} {gates outputs : List ℕ} (o : Opened file
   pub outputs-wired : arePairs (gateLine n + length gates / 5) outputs ≡ true
   unfolding isSound
   outputs-wired = and-right (areGates (gateLine n) gates) _ parts-sound
+
+  pub bounded : Bounds (netOf n gates outputs)
+  bounded = rw (← net-is) (accepted file (o .accepted) .bounds)

@@ -1,17 +1,19 @@
--- The three demands hold.
+-- The demands hold.
 use Prim.Native.Nat.{ℕ, zero, suc}
 use native.Mathlib.Omega.{arith}
 use mathlib.Core.Path.{_≡_, refl}
 use mathlib.Core.List.{List}
 use Rattle.diagram.specs.declared.Diagram.{Diagram}
 use lib.ListN.{length}
-use Rattle.fields.specs.Fields.{fieldsOf}
 use Rattle.files.proofs.Writing.{refused-writing}
 use Rattle.table.specs.Table.{diagramIn, tableRefusal, readRefusal, readingOr, readingOf}
 use Rattle.netlist.specs.declared.Hold.{Hold}
 use Rattle.netlist.specs.Netlist.{Netlist, holdAt, fileOf}
-use Rattle.netlist.specs.Questions.{netlistOf}
+use Rattle.netlist.specs.Questions.{netlistIn, netlistRefusal}
 use Rattle.simulation.specs.Service.{runRefusal, ranOr, runOf}
+use Rattle.sheet.specs.Sheet.{sheetOf}
+use Rattle.sheet.specs.Service.{sheetingOf}
+use Rattle.sheet.proofs.Promises.{sheet-determines, sheet-length}
 use Rattle.rules.specs.Board.{tableBoard}
 use Rattle.synthesis.specs.Service.{checkedOr, checkedOf, buildingOf}
 use Rattle.rules.proofs.Promises.{within-formulas, built-files-pass, right-code, different-netlists}
@@ -42,16 +44,17 @@ probe-refused zero net hold buffer k e = absurd (omega arith)
 probe-refused (suc r) net hold buffer k e = (refl, refl, refl, refl)
 
 refusals : Refusals
-unfolding checkedOf buildingOf readingOf runOf probingOf probeOf
+unfolding checkedOf buildingOf readingOf runOf probingOf probeOf sheetingOf
 refusals =
     record {
       check = λ table. check-refused (tableRefusal table) (tableBoard table);
       build = λ table buffer. refused-writing (tableRefusal table) (fileOf (tableBoard table)) buffer;
       readOff = λ table a. read-refused (readRefusal table a) (diagramIn table) a;
       run = λ netlist rails holds lines pairs.
-          run-refused (runRefusal netlist rails holds (length lines) (length pairs)) (netlistOf (fieldsOf netlist .items)) rails holds lines pairs;
+          run-refused (runRefusal netlist rails holds (length lines) (length pairs)) (netlistIn netlist) rails holds lines pairs;
       probe = λ table hold buffer.
           probe-refused (probeRefusal table hold (length buffer)) (tableBoard table) (holdAt hold 0) buffer;
+      sheet = λ netlist buffer. refused-writing (netlistRefusal netlist) (sheetOf (netlistIn netlist)) buffer;
     }
 
 pub demands : Demands
@@ -73,4 +76,5 @@ demands =
             smallest = smallest;
             probeWrites = probe-writes;
           };
+      sheets = record { determines = sheet-determines; length = sheet-length };
     }

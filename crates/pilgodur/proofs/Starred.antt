@@ -17,6 +17,8 @@ use Rattle.rules.specs.Blocks.{cutWithin, cut, term, orTree, joined, productEnt
 use Rattle.rules.specs.Board.{wholeBlock, boardOf, depthsOf, depthOf}
 use Rattle.rules.specs.Code.{codeRails}
 use Rattle.files.specs.Room.{writingOf}
+use Rattle.sheet.specs.Sheet.{decimal, inFive, rowText, numberedRows, rowsFrom, sheetOf}
+use Rattle.sheet.specs.Service.{sheetingOf}
 use Rattle.synthesis.specs.Service.{checkedOf, buildingOf}
 use Rattle.faults.specs.Betrayal.{stuckAt, noCode, betrays}
 use Rattle.probe.specs.Service.{probeRefusal, probingOf}
@@ -24,6 +26,6 @@ use Rattle.pilgodur.specs.Answers.{probeOf}
 use mathlib.Core.List.{flatMap}
 
 pub all-starred : AllHold starred
-unfolding all any stepAt valueOf fieldsWithin fieldsFrom fieldsOf encoded contactsIn firstNo width edgeAt root inputOf inRange distinct mention mentions brought numbered branching outputsIn areLevels padded diagramOf fieldsRefusal diagramRefusal tableRefusal listed gatesOf pairsOf holdsOf fileOf fileWith drive workOut held valuesOf shownOf areParts formOf isSound areOrdered netlistOf netlistRefusal runRefusal runOf _>>=_ sequence cutWithin cut term orTree joined productEntry product levelMatrix block wholeBlock boardOf depthsOf depthOf codeRails checkedOf writingOf buildingOf stuckAt noCode betrays leastFrom probeRefusal probingOf probeOf flatMap
+unfolding all any stepAt valueOf fieldsWithin fieldsFrom fieldsOf encoded contactsIn firstNo width edgeAt root inputOf inRange distinct mention mentions brought numbered branching outputsIn areLevels padded diagramOf fieldsRefusal diagramRefusal tableRefusal listed gatesOf pairsOf holdsOf fileOf fileWith drive workOut held valuesOf shownOf areParts formOf isSound areOrdered netlistOf netlistRefusal runRefusal runOf _>>=_ sequence cutWithin cut term orTree joined productEntry product levelMatrix block wholeBlock boardOf depthsOf depthOf codeRails checkedOf writingOf buildingOf stuckAt noCode betrays leastFrom probeRefusal probingOf probeOf decimal inFive rowText numberedRows rowsFrom sheetOf sheetingOf flatMap
 all-starred =
-    (refl, ((refl, refl, refl), ((refl, refl), ((refl, refl), ((refl, refl, refl, refl), ((refl, refl, refl, refl), ((refl, refl), (refl, ((refl, refl, refl), (refl, (refl, (refl, (refl, ((refl, refl, refl), tt))))))))))))))
+    (refl, ((refl, refl, refl), ((refl, refl), ((refl, refl), ((refl, refl, refl, refl), ((refl, refl, refl, refl), ((refl, refl), (refl, ((refl, refl, refl), (refl, (refl, (refl, ((refl, refl, refl), (refl, ((refl, refl, refl), tt)))))))))))))))

@@ -1,13 +1,15 @@
--- The three demands, on the definitions that the services' contracts cite.
+-- The three demands and what was promised since, on the definitions that the services' contracts cite.
 --
 -- The services return and write just what these definitions say, for every byte string (the contracts in src/lib.rt):
--- check `checkedOf`, build `buildingOf`, read-off `readingOf`, run `runOf`, probe `probeOf`. That each call is answered, and that
--- nothing else is written, is what the proof of every function's contract says.
+-- check `checkedOf`, build `buildingOf`, read-off `readingOf`, run `runOf`, probe `probeOf`, sheet `sheetingOf`. That each call is
+-- answered, and that nothing else is written, is what the proof of every function's contract says.
 use Prim.Native.Nat.{ℕ, suc}
 use mathlib.Core.Path.{_≡_}
 use mathlib.Core.List.{List}
 use Rattle.table.specs.Table.{readingOf}
 use Rattle.simulation.specs.Service.{runOf}
+use Rattle.sheet.specs.Service.{sheetingOf}
+use Rattle.sheet.specs.Promises.{SheetDetermines, SheetLength}
 use Rattle.synthesis.specs.Service.{checkedOf, buildingOf}
 use Rattle.rules.specs.Promises.{WithinFormulas, BuiltFilesPass, RightCode, DifferentNetlists}
 use Rattle.pilgodur.specs.Answers.{probeOf}
@@ -27,6 +29,8 @@ pub record Refusals : Type 0 where
   pub probe : (table hold buffer : List ℕ) (k : ℕ) → probeOf table hold buffer .answer .refusal ≡ suc k →
       (probeOf table hold buffer .answer .input ≡ 0) × (probeOf table hold buffer .answer .output ≡ 0)
       × (probeOf table hold buffer .answer .way ≡ 0) × (probeOf table hold buffer .buffer ≡ buffer)
+  pub sheet : (netlist buffer : List ℕ) (k : ℕ) → sheetingOf netlist buffer .refusal ≡ suc k →
+      (sheetingOf netlist buffer .length ≡ 0) × (sheetingOf netlist buffer .buffer ≡ buffer)
 
 -- Demand 2. The netlist of an accepted table is the one that the rules give: `buildingOf` and `checkedOf` speak of `boardOf`. It is
 -- within the formulas for gates and depth; each pair shows the table's value and its opposite; two different accepted tables have
@@ -46,7 +50,13 @@ pub record StuckLines : Type 0 where
   pub smallest : Smallest
   pub probeWrites : ProbeWrites
 
+-- The gate sheet. It determines the netlist once the count of contacts is given, and fits its buffer's largest length.
+pub record Sheets : Type 0 where
+  pub determines : SheetDetermines
+  pub length : SheetLength
+
 pub record Demands : Type 0 where
   pub first : Refusals
   pub second : Netlists
   pub third : StuckLines
+  pub sheets : Sheets

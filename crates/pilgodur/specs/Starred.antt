@@ -1,19 +1,23 @@
 -- The worked boards that are proved, as a list of cases, each with what the service answers.
 use Prim.Native.Nat.{ℕ}
 use mathlib.Core.Path.{_≡_}
-use mathlib.Core.List.{List, [], _∷_}
-use lib.ListN.{replicate}
+use Prim.Native.String.{String}
+use mathlib.Core.List.{List, [], _∷_, _++_, flatMap}
+use lib.ListN.{length, replicate}
 use Rattle.simulation.specs.Service.{runOf}
+use Rattle.sheet.specs.Sheet.{ascii}
+use Rattle.sheet.specs.Service.{sheetingOf}
 use Rattle.synthesis.specs.Service.{checkedOf, buildingOf}
 use Rattle.pilgodur.specs.Answers.{probeOf}
 
 -- What a service answers: check's numbers; the file that build writes to a buffer of its length; the pairs that a run of a netlist
--- writes; probe's input, output and way.
+-- writes; probe's input, output and way; the lines of the sheet of a netlist, written to a buffer of its length.
 pub data Case : Type 0 where
   checks : (table : List ℕ) (refusal contacts outputs gates depth : ℕ) → Case
-  builds : (table : List ℕ) (length : ℕ) (file : List ℕ) → Case
+  builds : (table : List ℕ) (size : ℕ) (file : List ℕ) → Case
   runs : (netlist rails holds pairs : List ℕ) → Case
   probes : (table hold : List ℕ) (input output way : ℕ) → Case
+  sheets : (netlist : List ℕ) (lines : List String) → Case
 
 -- Buffers that are always long enough here.
 abbrev room : List ℕ
@@ -22,12 +26,15 @@ room = replicate 100 0
 abbrev pub Answered : Case → Type 0
 Answered (checks table refusal contacts outputs gates depth) =
     checkedOf table ≡ record { refusal = refusal; contacts = contacts; outputs = outputs; gates = gates; depth = depth }
-Answered (builds table length file) =
-    let b = buildingOf table (replicate length 0) in (b .refusal ≡ 0) × (b .length ≡ length) × (b .buffer ≡ file)
+Answered (builds table size file) =
+    let b = buildingOf table (replicate size 0) in (b .refusal ≡ 0) × (b .length ≡ size) × (b .buffer ≡ file)
 Answered (runs netlist rails holds pairs) =
     let r = runOf netlist rails holds (replicate 17 0) (replicate 2 0) in (r .refusal ≡ 0) × (r .pairs ≡ pairs)
 Answered (probes table hold input output way) =
     let p = probeOf table hold room .answer in (p .refusal ≡ 0) × (p .input ≡ input) × (p .output ≡ output) × (p .way ≡ way)
+Answered (sheets netlist lines) =
+    let text = flatMap (λ (line : String). ascii line ++ ascii "\n") lines in
+    let s = sheetingOf netlist (replicate (length text) 0) in (s .refusal ≡ 0) × (s .length ≡ length text) × (s .buffer ≡ text)
 
 abbrev pub AllHold : List Case → Type 0
 AllHold [] = Unit
@@ -115,6 +122,19 @@ starred =
     ∷ checks (1 ∷ 0 ∷ 1 ∷ 2 ∷ 2 ∷ 0 ∷ 1 ∷ 0 ∷ 3 ∷ 0 ∷ 2 ∷ 0 ∷ 1 ∷ 3 ∷ 0 ∷ 4 ∷ 0 ∷ 1 ∷ 0 ∷ 1 ∷ []) 6 0 0 0 0
     ∷ checks (1 ∷ 0 ∷ 1 ∷ 2 ∷ 2 ∷ 0 ∷ 1 ∷ 0 ∷ 3 ∷ 0 ∷ 2 ∷ 1 ∷ 0 ∷ 3 ∷ 0 ∷ 4 ∷ 0 ∷ 1 ∷ 1 ∷ 0 ∷ []) 7 0 0 0 0
     ∷ checks (1 ∷ 0 ∷ 1 ∷ 2 ∷ 2 ∷ 0 ∷ 1 ∷ 0 ∷ 3 ∷ 0 ∷ 2 ∷ 0 ∷ 0 ∷ 3 ∷ 0 ∷ 2 ∷ 0 ∷ 1 ∷ []) 8 0 0 0 0
+    ∷ sheets selectorFile
+    (" LINE KIN     A     B"
+    ∷ "    8 AND     3     5"
+    ∷ "    9 AND     2     5"
+    ∷ "   10 OR      8     9"
+    ∷ "   11 AND     3     4"
+    ∷ "   12 AND     2     4"
+    ∷ "   13 AND    10     7"
+    ∷ "   14 OR     13    11"
+    ∷ "   15 AND    10     6"
+    ∷ "   16 OR     15    12"
+    ∷ "    0 OUT    16    14"
+    ∷ [])
     -- Beyond the starred cases: two rows, both blocks with gates, and ORs of three and four terms.
     ∷ checks chooser 0 4 2 24 5
     ∷ builds chooser 138 chooserFile

@@ -1,4 +1,4 @@
-// The five services for C. include/pilgodur.h has their prototypes; a byte string is a pointer and then a length there.
+// The services for C. include/pilgodur.h has their prototypes; a byte string is a pointer and then a length there.
 use files::Written;
 use probe::Way;
 use synthesis::Checked;
@@ -6,6 +6,7 @@ use table::Reading;
 ghost use mathlib.Core.Path.{_≡_};
 ghost use Rattle.table.specs.Table.{readingOf};
 ghost use Rattle.simulation.specs.Service.{runOf};
+ghost use Rattle.sheet.specs.Service.{sheetingOf};
 ghost use Rattle.synthesis.specs.Service.{checkedOf, buildingOf};
 ghost use Rattle.pilgodur.specs.Answers.{wayNumber, probeOf};
 
@@ -82,4 +83,13 @@ pub extern "C" fn pilgodur_probe(table: &[u8], hold: &[u8], buffer: &mut [u8]) -
         output: probed.output,
         way: way_number(way),
     }
+}
+
+// Writes a netlist's sheet: questions 11 and 12, then 9; the sheet's bytes and its length.
+#[no_mangle]
+pub extern "C" fn pilgodur_sheet(netlist: &[u8], text: &mut [u8]) -> Written
+    ensures { λ r. ⌜ record { refusal = r .refusal; length = r .length; buffer = now (text .exit) }
+        ≡ sheetingOf (now (netlist .entry)) (now (text .entry)) ⌝ }
+{
+    sheet::sheet(netlist, text)
 }

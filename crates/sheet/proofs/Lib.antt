@@ -1,0 +1,5 @@
+pub mod Columns
+pub mod Pages
+pub mod Outcomes
+pub mod Readback
+pub mod Promises

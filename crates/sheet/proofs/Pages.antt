@@ -1,0 +1,204 @@
+-- Rows written one after another: how long they are, and what one more adds.
+use borrow.Author.Tests.{ltb-true, ltb-false, eqb-true, eqb-false, lt-ltb, le-ltb, eq-eqb, ne-eqb}
+use native.Mathlib.Nat.{add-zero, zero-add}
+use native.Mathlib.Numerals.{add-one}
+use native.Mathlib.Omega.{arith}
+use Prim.Native.Nat.{ℕ, zero, suc, _+_, _*_, _/_, _%_, _≤_}
+use mathlib.Core.Path.{_≡_, refl, sym, ap, ap₂, _∙_}
+use mathlib.Core.Bool.{Bool, true, false, _&&_, cond}
+use mathlib.Core.List.{List, [], _∷_, _++_, append-assoc, append-nil}
+use lib.Dec.{ltb, eqb}
+use lib.ListN.{length, length-append}
+use lib.Seq.{sets}
+use Rattle.fields.specs.Bounded.{listed}
+use Rattle.fields.proofs.Listed.{length-listed, listed-more}
+use Rattle.files.specs.Room.{over}
+use Rattle.files.proofs.Written.{sets-more}
+use Rattle.files.proofs.Buffers.{sets-over}
+use Rattle.netlist.specs.declared.Gate.{Gate}
+use Rattle.netlist.specs.Netlist.{Netlist, gateLine}
+use Rattle.sheet.specs.declared.row.Kind.{Kind}
+use Rattle.sheet.specs.declared.row.Kind.the-variants.{And, Or, Out}
+use Rattle.sheet.specs.declared.row.Row.{Row}
+use Rattle.sheet.specs.Sheet.{inFive, rowText, heading, headingAfter, kindOf, gateRow, outputRow, numberedRows, rowsOf, rowsFrom, sheetOf}
+use Rattle.sheet.specs.Inner.Places.{endOf, placeOf, kindColumn}
+use Rattle.sheet.proofs.Columns.{signs, in-five}
+
+-- A row by its columns, each with the sign behind it.
+abbrev pub columns : ℕ → Kind → ℕ → ℕ → List ℕ
+columns n k a b = (signs n ++ (32 ∷ [])) ++ kindColumn k ++ (signs a ++ (32 ∷ [])) ++ (signs b ++ (10 ∷ []))
+
+pub columns-are : (n : ℕ) (k : Kind) (a b : ℕ) → rowText (record { number = n; kind = k; first = a; second = b }) ≡ columns n k a b
+unfolding rowText
+columns-are n And a b = rw (in-five n, in-five a, in-five b)
+columns-are n Or a b = rw (in-five n, in-five a, in-five b)
+columns-are n Out a b = rw (in-five n, in-five a, in-five b)
+
+length-columns : (n : ℕ) (k : Kind) (a b : ℕ) → length (columns n k a b) ≡ 22
+length-columns n And a b = refl
+length-columns n Or a b = refl
+length-columns n Out a b = refl
+
+pub length-row : (r : Row) → length (rowText r) ≡ 22
+length-row r = let k = r .kind in ap length (columns-are (r .number) k (r .first) (r .second)) ∙ length-columns (r .number) k (r .first) (r .second)
+
+-- A run of bytes behind another.
+onward : (l : List ℕ) (i : ℕ) {j : ℕ} (xs ys : List ℕ) {m n : List ℕ} → m ≡ sets l i xs → n ≡ sets m j ys → j ≡ i + length xs → n ≡ sets l i (xs ++ ys)
+onward l i {j} xs ys d e h = e ∙ ap (λ (m : List ℕ). sets m j ys) d ∙ sets-more l i j xs ys h
+
+length-kind : (k : Kind) → length (kindColumn k) ≡ 4
+length-kind And = refl
+length-kind Or = refl
+length-kind Out = refl
+
+pub row-written : (l : List ℕ) (i n : ℕ) (k : Kind) (a b : ℕ) {t u v w : List ℕ} → t ≡ sets l i (inFive n ++ (32 ∷ [])) →
+    u ≡ sets t (i + 6) (kindColumn k) → v ≡ sets u (i + 10) (inFive a ++ (32 ∷ [])) → w ≡ sets v (i + 16) (inFive b ++ (10 ∷ [])) →
+    w ≡ sets l i (rowText (record { number = n; kind = k; first = a; second = b }))
+row-written l i n k a b d e f g =
+    go (kindColumn k) (length-kind k) (rw (in-five n) at d) e (rw (in-five a) at f) (rw (in-five b) at g)
+    ∙ ap (sets l i) (sym (columns-are n k a b))
+  where
+    go : (c : List ℕ) {t u v w : List ℕ} → length c ≡ 4 → t ≡ sets l i (signs n ++ (32 ∷ [])) → u ≡ sets t (i + 6) c →
+        v ≡ sets u (i + 10) (signs a ++ (32 ∷ [])) → w ≡ sets v (i + 16) (signs b ++ (10 ∷ [])) →
+        w ≡ sets l i ((signs n ++ (32 ∷ [])) ++ c ++ (signs a ++ (32 ∷ [])) ++ (signs b ++ (10 ∷ [])))
+    go c h d e f g =
+        let number : List ℕ = signs n ++ (32 ∷ []) in
+        let first : List ℕ = signs a ++ (32 ∷ []) in
+        let two = onward l i number c d e (omega arith) in
+        let three = onward l i (number ++ c) first two f (omega arith) in
+        onward l i (number ++ c ++ first) (signs b ++ (10 ∷ [])) three g (omega (arith, length-append c first))
+
+-- Where no heading stands, and where one does.
+pub first-row : (k : ℕ) → k ≡ 0 → headingAfter k ≡ []
+first-row k e = simp (le-ltb 0 k (omega arith))
+
+pub page-inside : (k : ℕ) → (k % 50 ≡ 0 → ⊥) → headingAfter k ≡ []
+page-inside k h = simp (ne-eqb (k % 50) 0 h) (go (ltb 0 k))
+  where
+    go : (b : Bool) → cond (b && false) heading [] ≡ []
+    go true = refl
+    go false = refl
+
+pub page-starts : (k : ℕ) → (k ≡ 0 → ⊥) → k % 50 ≡ 0 → (headingAfter k ≡ heading) × (22 * (k + k / 50) ≡ endOf k)
+page-starts k h e = (simp (lt-ltb 0 k (omega arith), eq-eqb (k % 50) 0 e), omega arith)
+
+-- The heading above a row brings the end of the rows before it to the row's place.
+pub heading-end : (k : ℕ) → endOf k + length (headingAfter k) ≡ placeOf k
+heading-end k = go (ltb 0 k) (eqb (k % 50) 0) refl refl
+  where
+    go : (a b : Bool) → ltb 0 k ≡ a → eqb (k % 50) 0 ≡ b → endOf k + length (cond (a && b) heading []) ≡ placeOf k
+    go true true p q = let h = ltb-true 0 k p in let z = eqb-true (k % 50) 0 q in omega arith
+    go true false p q = let h = ltb-true 0 k p in let z = eqb-false (k % 50) 0 q in omega arith
+    go false b p q = let h = ltb-false 0 k p in omega arith
+
+row-end : (k : ℕ) (r : Row) → endOf k + length (headingAfter k ++ rowText r) ≡ endOf (suc k)
+row-end k r =
+    let h = heading-end k in
+    let l = length-row r in
+    simp length-append (omega arith)
+
+pub rows-end : (k : ℕ) (rs : List Row) → endOf k + length (rowsFrom k rs) ≡ endOf (k + length rs)
+unfolding rowsFrom
+rows-end k [] = simp add-zero
+rows-end k (r ∷ rs) =
+    let one = row-end k r in
+    let more = rows-end (suc k) rs in
+    let l = length-append (headingAfter k ++ rowText r) (rowsFrom (suc k) rs) in
+    let e : suc k + length rs ≡ k + suc (length rs) = omega arith in
+    rw (← e) (omega arith)
+
+rows-append : (k : ℕ) (rs ss : List Row) → rowsFrom k (rs ++ ss) ≡ rowsFrom k rs ++ rowsFrom (k + length rs) ss
+unfolding rowsFrom
+rows-append k [] ss = ap (λ (i : ℕ). rowsFrom i ss) (sym (add-zero k))
+rows-append k (r ∷ rs) ss =
+    let e : suc k + length rs ≡ k + suc (length rs) = omega arith in
+    ap (_++_ (headingAfter k ++ rowText r)) (rows-append (suc k) rs ss ∙ ap (λ (i : ℕ). rowsFrom (suc k) rs ++ rowsFrom i ss) e)
+    ∙ sym (append-assoc (headingAfter k ++ rowText r) (rowsFrom (suc k) rs) (rowsFrom (k + suc (length rs)) ss))
+
+module _ {A : Type 0} (row : ℕ → A → Row) where
+  pub length-numbered : (k : ℕ) (xs : List A) → length (numberedRows row k xs) ≡ length xs
+  unfolding numberedRows
+  length-numbered k [] = refl
+  length-numbered k (x ∷ xs) = ap suc (length-numbered (suc k) xs)
+
+  numbered-more : (k : ℕ) (xs : List A) (x : A) → numberedRows row k (xs ++ (x ∷ [])) ≡ numberedRows row k xs ++ (row (k + length xs) x ∷ [])
+  unfolding numberedRows
+  numbered-more k [] x = ap (λ (i : ℕ). row i x ∷ []) (sym (add-zero k))
+  numbered-more k (y ∷ xs) x =
+      ap (_∷_ (row k y)) (numbered-more (suc k) xs x ∙ ap (λ (i : ℕ). numberedRows row (suc k) xs ++ (row i x ∷ [])) (omega arith))
+
+  -- The rows of the first j of so many elements, numbered from k on, below so many others.
+  module _ (text : List ℕ) (before k : ℕ) (at : ℕ → A) where
+    abbrev rowsTo : ℕ → List Row
+    rowsTo j = numberedRows row k (listed at j 0)
+
+    abbrev pub filled : ℕ → List ℕ
+    filled j = sets text (endOf before) (rowsFrom before (rowsTo j))
+
+    pub none-filled : text ≡ filled 0
+    unfolding rowsFrom numberedRows listed
+    none-filled = refl
+
+    pub row-more : (j : ℕ) {i : ℕ} {r : Row} {now after : List ℕ} → now ≡ filled j → i ≡ before + j → r ≡ row (k + j) (at j) →
+        after ≡ sets now (endOf i) (headingAfter i ++ rowText r) → after ≡ filled (j + 1)
+    unfolding rowsFrom
+    row-more j {i} {r} n e o a =
+        let l : length (rowsTo j) ≡ j = length-numbered k (listed at j 0) ∙ length-listed at j 0 in
+        let rows : rowsTo (j + 1) ≡ rowsTo j ++ (r ∷ []) =
+        ap (numberedRows row k) (listed-more at j) ∙ numbered-more k (listed at j 0) (at j)
+        ∙ ap (λ (s : Row). rowsTo j ++ (s ∷ [])) (ap (λ (m : ℕ). row (k + m) (at j)) (length-listed at j 0) ∙ sym o) in
+        a ∙ ap (λ (t : List ℕ). sets t (endOf i) (headingAfter i ++ rowText r)) n
+        ∙ sets-more text (endOf before) (endOf i) (rowsFrom before (rowsTo j)) _
+        (ap endOf (e ∙ ap (_+_ before) (sym l)) ∙ sym (rows-end before (rowsTo j)))
+        ∙ ap (sets text (endOf before)) (sym (ap (rowsFrom before) rows ∙ rows-append before (rowsTo j) (r ∷ [])
+        ∙ ap (λ (m : ℕ). rowsFrom before (rowsTo j) ++ rowsFrom m (r ∷ [])) (ap (_+_ before) l ∙ sym e)
+        ∙ ap (_++_ (rowsFrom before (rowsTo j))) (append-nil (headingAfter i ++ rowText r))))
+
+pub gate-row-is : (line : ℕ) {k : Kind} {m n : Gate} → k ≡ kindOf (m .kind) → m ≡ n →
+    record { number = line; kind = k; first = m .left; second = m .right } ≡ gateRow line n
+gate-row-is line {m = m} e g = ap (λ (k : Kind). record { number = line; kind = k; first = m .left; second = m .right }) e ∙ ap (gateRow line) g
+
+-- A row below its heading.
+pub next-written : (l : List ℕ) (k : ℕ) (r : Row) {m n : List ℕ} → m ≡ sets l (endOf k) (headingAfter k) →
+    n ≡ sets m (placeOf k) (rowText r) → n ≡ sets l (endOf k) (headingAfter k ++ rowText r)
+next-written l k r d e = onward l (endOf k) (headingAfter k) (rowText r) d e (sym (heading-end k))
+
+-- The heading, the gates' rows and the outputs' rows are the sheet.
+module _ (net : Netlist) where
+  abbrev gateRows : List Row
+  gateRows = numberedRows gateRow (gateLine (net .contacts)) (net .gates)
+
+  abbrev outputRows : List Row
+  outputRows = numberedRows outputRow 0 (net .pairs)
+
+  rows-joined : rowsFrom 0 (rowsOf net) ≡ rowsFrom 0 gateRows ++ rowsFrom (length (net .gates)) outputRows
+  rows-joined =
+      rows-append 0 gateRows outputRows
+      ∙ ap (λ (k : ℕ). rowsFrom 0 gateRows ++ rowsFrom k outputRows)
+      (zero-add (length gateRows) ∙ length-numbered gateRow (gateLine (net .contacts)) (net .gates))
+
+  pub sheet-end : length (sheetOf net) ≡ endOf (length (net .gates) + length (net .pairs))
+  unfolding sheetOf
+  sheet-end =
+      let l = length-append heading (rowsFrom 0 (rowsOf net)) in
+      let e = rows-end 0 (rowsOf net) in
+      let g = length-numbered gateRow (gateLine (net .contacts)) (net .gates) in
+      let p = length-numbered outputRow 0 (net .pairs) in
+      let c = length-append gateRows outputRows in
+      let n : 0 + length (rowsOf net) ≡ length (net .gates) + length (net .pairs) = omega arith in
+      rw (← n) (omega arith)
+
+  pub sheet-written : (text : List ℕ) {a b c : List ℕ} → endOf (length (net .gates) + length (net .pairs)) ≤ length text →
+      a ≡ sets text 0 heading → b ≡ sets a (endOf 0) (rowsFrom 0 gateRows) →
+      c ≡ sets b (endOf (length (net .gates))) (rowsFrom (length (net .gates)) outputRows) → c ≡ over (sheetOf net) text
+  unfolding sheetOf
+  sheet-written text room d e f =
+      let g = length-numbered gateRow (gateLine (net .contacts)) (net .gates) in
+      let ends = rows-end 0 gateRows in
+      let count : 0 + length gateRows ≡ length (net .gates) = omega arith in
+      let first = onward text 0 heading (rowsFrom 0 gateRows) d e (omega arith) in
+      let l = length-append heading (rowsFrom 0 gateRows) in
+      onward text 0 (heading ++ rowsFrom 0 gateRows) (rowsFrom (length (net .gates)) outputRows) first f (rw (← count) (omega arith))
+      ∙ ap (sets text 0)
+      (append-assoc heading (rowsFrom 0 gateRows) (rowsFrom (length (net .gates)) outputRows) ∙ sym (ap (_++_ heading) rows-joined))
+      ∙ sets-over (sheetOf net) text (rw sheet-end room)

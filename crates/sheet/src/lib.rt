@@ -1,0 +1,8 @@
+// The gate sheet of a netlist: a row for each gate and each output, in columns, under headings.
+mod page;
+mod row;
+mod service;
+
+pub use row::Kind;
+pub use row::Row;
+pub use service::sheet;
