@@ -1,4 +1,4 @@
-# make            the library, the bench, and the selector's gate list from its table file
+# make            the library, the bench, the program sheet, and the selector's gate sheet from its table file
 # make test       the formatter, every proof, must-fail edit and program, then the tests in C; its last line is rt ci's own count
 # make bench      times against plain C
 # make install    the header, the library, the bench and a pkg-config file, under PREFIX, within DESTDIR; make uninstall
@@ -27,7 +27,7 @@ export PKG_CONFIG_FILE
 
 .PHONY: all test install uninstall clean distclean
 
-all: build/pilgodur
+all: build/pilgodur build/sheet
 	build/pilgodur list examples/selector.table
 
 $(LIBRARY): $(shell find crates -name '*.rt' -o -name '*.antt')

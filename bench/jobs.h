@@ -5,7 +5,7 @@
 #include "../include/pilgodur.h"
 #include "../tests/tables.h"
 
-enum { MOST_GATES = 10560, BUFFER = PILGODUR_FILE_MAX + PILGODUR_LINES_MAX };
+enum { MOST_GATES = 10560, BUFFER = PILGODUR_SHEET_MAX }; /* a sheet is longer than what any other service writes */
 
 struct job {
     uint8_t table[TABLE_MAX];

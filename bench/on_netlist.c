@@ -9,20 +9,15 @@
 static uint8_t room[PILGODUR_FILE_MAX];
 static uint8_t lines[PILGODUR_LINES_MAX];
 
+/* Prints the gate sheet, byte for byte. */
 enum status list(struct request *request, FILE *out)
 {
+    static uint8_t text[PILGODUR_SHEET_MAX];
     struct netlist netlist = netlist_in_or_of(load_operand(request, 0), room);
-    fprintf(out, "contacts %u, gates %u, outputs %u\n", netlist.contacts, netlist.gates, netlist.outputs);
-    fprintf(out, "  line  kind  first  second\n");
-    for (unsigned g = 0; g < netlist.gates; g++) {
-        struct gate gate = gate_at(&netlist, g);
-        fprintf(out, "%6u  %-4s %6u  %6u\n", first_gate(&netlist) + g, gate.kind, gate.first, gate.second);
-    }
-    fprintf(out, "output         true   false\n");
-    for (unsigned j = 0; j < netlist.outputs; j++) {
-        struct pair pair = pair_at(&netlist, j);
-        fprintf(out, "%6u       %6u  %6u\n", j, pair.yes, pair.no);
-    }
+    pilgodur_built sheet = pilgodur_sheet(netlist.bytes, netlist.length, text, sizeof text);
+    if (sheet.refusal != 0)
+        refuse(sheet.refusal, "%s", netlist.name);
+    fwrite(text, 1, sheet.length, out);
     return ANSWERED;
 }
 

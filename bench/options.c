@@ -44,7 +44,7 @@ static const char help[] =
     "\n"
     "  check TABLE                     ask the table's questions; show contacts, outputs, gates and depth\n"
     "  build TABLE [-o FILE]           build the netlist; without -o show it as hex: text\n"
-    "  list TABLE|NETLIST              show the gate list\n"
+    "  list TABLE|NETLIST              print the gate sheet: a row for each gate, then one for each output\n"
     "  compare A B [--all]             lay the gate lists of two tables or netlists side by side: show how many gates differ, the\n"
     "                                  first of them (all of them with --all) and every output that differs\n"
     "  read-off TABLE INPUT            show every permit that the table gives at an input\n"

@@ -1,4 +1,4 @@
-/* The bench program: the five services, and what can be made of them, on files. */
+/* The bench program: the six services, and what can be made of them, on files. */
 #define _XOPEN_SOURCE 700
 #include <stdio.h>
 #include <stdlib.h>
@@ -6,6 +6,8 @@
 #include "commands.h"
 #include "options.h"
 #include "save.h"
+
+const char program_name[] = "pilgodur";
 
 const struct file *load_operand(struct request *request, int operand)
 {

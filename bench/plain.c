@@ -444,3 +444,60 @@ pilgodur_probed plain_probe(const uint8_t *table, size_t table_len, const uint8_
     memcpy(buffer + file_length(&t), value, count);
     return answer;
 }
+
+/* ---- The gate sheet. ---- */
+
+enum { ROW = 22, PAGE = 50 };
+
+/* A number in five columns. */
+static uint8_t *put_number(uint8_t *at, unsigned number)
+{
+    unsigned i = 5;
+    do {
+        at[--i] = (uint8_t)('0' + number % 10);
+        number /= 10;
+    } while (number != 0);
+    while (i > 0)
+        at[--i] = ' ';
+    return at + 5;
+}
+
+/* Row r, counted from 0, with the heading where there is one before it. */
+static uint8_t *put_row(uint8_t *at, unsigned r, unsigned number, const char *kind, const uint8_t *lines)
+{
+    if (r % PAGE == 0) {
+        memcpy(at, " LINE KIN     A     B\n", ROW);
+        at += ROW;
+    }
+    at = put_number(at, number);
+    *at++ = ' ';
+    memcpy(at, kind, 3);
+    at += 3;
+    *at++ = ' ';
+    at = put_number(at, two_bytes(lines));
+    *at++ = ' ';
+    at = put_number(at, two_bytes(lines + 2));
+    *at++ = '\n';
+    return at;
+}
+
+pilgodur_built plain_sheet(const uint8_t *netlist, size_t netlist_len, uint8_t *text, size_t text_len)
+{
+    unsigned gates_found, outputs;
+    if (!netlist_fields(netlist, netlist_len, &gates_found, &outputs))
+        return (pilgodur_built){11, 0};
+    unsigned first = 2 + 2u * netlist[3];
+    if (!netlist_lines(netlist, first, first + gates_found, outputs))
+        return (pilgodur_built){12, 0};
+    size_t rows = gates_found + outputs;
+    size_t length = ROW * (rows + (rows + PAGE - 1) / PAGE);
+    if (text_len < length)
+        return (pilgodur_built){9, 0};
+    const uint8_t *gate = netlist + 7;
+    for (unsigned g = 0; g < gates_found; g++, gate += 5)
+        text = put_row(text, g, first + g, gate[0] == 0 ? "AND" : "OR ", gate + 1);
+    const uint8_t *output = gate + 3;
+    for (unsigned j = 0; j < outputs; j++)
+        text = put_row(text, gates_found + j, j, "OUT", output + 4 * j);
+    return (pilgodur_built){0, (uint32_t)length};
+}

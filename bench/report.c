@@ -13,7 +13,7 @@ static const char *const questions[] = {[0] = "", PILGODUR_QUESTIONS(QUESTION)};
 
 static void say(const char *format, va_list args)
 {
-    fputs("pilgodur: ", stderr);
+    fprintf(stderr, "%s: ", program_name);
     vfprintf(stderr, format, args);
 }
 

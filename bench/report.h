@@ -11,7 +11,10 @@ enum status {
     FAILED = 3,  /* a file cannot be read or written */
 };
 
-/* Says "pilgodur: " and the message, and ends the program. */
+/* The program that a message names; each program defines its own. */
+extern const char program_name[];
+
+/* Says the program's name and the message, and ends the program. */
 __attribute__((format(printf, 2, 3)))
 _Noreturn void fail(enum status status, const char *format, ...);
 

@@ -17,10 +17,11 @@ static const struct {
     uint32_t (*run)(const uint8_t *, size_t, const uint8_t *, size_t, const uint8_t *, size_t, uint8_t *, size_t, uint8_t *,
                     size_t);
     pilgodur_probed (*probe)(const uint8_t *, size_t, const uint8_t *, size_t, uint8_t *, size_t);
+    pilgodur_built (*sheet)(const uint8_t *, size_t, uint8_t *, size_t);
 } services[SIDES] = {
-    [PLAIN] = {plain_check, plain_build, plain_read_off, plain_run, plain_probe},
-    [TUNED] = {tuned_check, tuned_build, tuned_read_off, tuned_run, tuned_probe},
-    [LIBRARY] = {pilgodur_check, pilgodur_build, pilgodur_read_off, pilgodur_run, pilgodur_probe},
+    [PLAIN] = {plain_check, plain_build, plain_read_off, plain_run, plain_probe, plain_sheet},
+    [TUNED] = {tuned_check, tuned_build, tuned_read_off, tuned_run, tuned_probe, tuned_sheet},
+    [LIBRARY] = {pilgodur_check, pilgodur_build, pilgodur_read_off, pilgodur_run, pilgodur_probe, pilgodur_sheet},
 };
 
 static uint64_t do_check(enum side side, const struct job *j)
@@ -67,6 +68,12 @@ static uint64_t do_probe_lines(enum side side, const struct job *j)
             sum = 31 * sum + do_probe(side, &each);
         }
     return sum;
+}
+
+static uint64_t do_sheet(enum side side, const struct job *j)
+{
+    pilgodur_built r = services[side].sheet(j->netlist, j->netlist_length, written[side], BUFFER);
+    return r.refusal + 100 * (uint64_t)r.length;
 }
 
 /* ---- The rows. ---- */
@@ -155,6 +162,22 @@ static void add_probes(void)
     add_mean();
 }
 
+static void add_sheets(void)
+{
+    use_random_netlist(0);
+    add_row("sheet, no gates", do_sheet, 1);
+    use_random_netlist(660);
+    add_row("sheet, 660 gates", do_sheet, 1);
+    use_largest_board(12);
+    add_row(label("sheet, board of %u gates", job.gates), do_sheet, 1);
+    use_random_netlist(MOST_GATES);
+    add_row("sheet, 10,560 gates, 4 netlists", do_sheet, 1);
+    for (unsigned k = 1; k < 4; k++) {
+        use_random_netlist(MOST_GATES);
+        add_job();
+    }
+}
+
 int main(void)
 {
     printf("Processor time for one call in microseconds, in the fastest of %d rounds, and the library's time divided by\n"
@@ -166,5 +189,6 @@ int main(void)
     add_tables(2);
     add_runs();
     add_probes();
+    add_sheets();
     return measure_rows() == 1 ? 3 : 0;
 }

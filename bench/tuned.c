@@ -538,3 +538,114 @@ pilgodur_probed tuned_probe(const uint8_t *table, size_t table_len, const uint8_
     memcpy(buffer, made, length);
     return search(&s, &t, buffer + length - 4 * t.outputs, hold, buffer + length);
 }
+
+/* ---- The gate sheet: a row is three words, put together in registers; the columns of a number come from tables, without a loop or
+ * a branch; those of a gate's own line are counted up. ---- */
+
+enum { ROW = 22, PAGE = 50 };
+
+#define TEN(ENTRY, t) ENTRY(t, 0), ENTRY(t, 1), ENTRY(t, 2), ENTRY(t, 3), ENTRY(t, 4), ENTRY(t, 5), ENTRY(t, 6), ENTRY(t, 7), \
+    ENTRY(t, 8), ENTRY(t, 9)
+#define HUNDRED(ENTRY) TEN(ENTRY, 0), TEN(ENTRY, 1), TEN(ENTRY, 2), TEN(ENTRY, 3), TEN(ENTRY, 4), TEN(ENTRY, 5), TEN(ENTRY, 6), \
+    TEN(ENTRY, 7), TEN(ENTRY, 8), TEN(ENTRY, 9)
+#define DIGITS(t, o) ('0' + t) | ('0' + o) << 8
+#define BLANKED(t, o) (t == 0 ? ' ' : '0' + t) | ('0' + o) << 8
+#define HIGH(t, o) ' ' | (t == 0 ? ' ' : '0' + t) << 8 | (t == 0 && o == 0 ? ' ' : '0' + o) << 16
+#define ABOVE_99(t, o) '1' | ('0' + t) << 8 | ('0' + o) << 16
+
+/* Text, the first character lowest: the last two columns of a number from 100 up, then of one below 100; the three columns before
+ * them, by the count of hundreds; the kinds. */
+static const uint16_t low_text[200] = {HUNDRED(DIGITS), HUNDRED(BLANKED)};
+static const uint32_t high_text[200] = {HUNDRED(HIGH), HUNDRED(ABOVE_99)};
+static const uint64_t kind_text[] = {'A' | 'N' << 8 | 'D' << 16, 'O' | 'R' << 8 | ' ' << 16, 'O' | 'U' << 8 | 'T' << 16};
+
+/* The columns of a number below 20,000. */
+static uint64_t columns(uint32_t number)
+{
+    uint32_t hundreds = number * 5243 >> 19; /* number / 100 */
+    uint32_t rest = number - 100 * hundreds;
+    return high_text[hundreds] | (uint64_t)low_text[rest + (hundreds == 0 ? 100 : 0)] << 24;
+}
+
+/* From the columns of a number below 99,999 to those of the next: a blank becomes 1, as a 0 does. */
+static uint64_t next_columns(uint64_t text)
+{
+    unsigned at = 32;
+    for (; (text >> at & 0xff) == '9'; at -= 8)
+        text -= 9ull << at;
+    return (text | 0x10ull << at) + (1ull << at);
+}
+
+/* The second word ends in two characters that the third begins with. */
+static uint8_t *put_row(uint8_t *at, uint64_t number, uint64_t kind, uint64_t a, uint64_t b)
+{
+    uint64_t first = number | (uint64_t)' ' << 40 | kind << 48;
+    uint64_t second = kind >> 16 | ' ' << 8 | a << 16 | (uint64_t)' ' << 56;
+    uint64_t third = a >> 32 | ' ' << 8 | b << 16 | (uint64_t)'\n' << 56;
+    memcpy(at, &first, 8);
+    memcpy(at + 8, &second, 8);
+    memcpy(at + 14, &third, 8);
+    return at + ROW;
+}
+
+static uint8_t *put_heading(uint8_t *at)
+{
+    memcpy(at, " LINE KIN     A     B\n", ROW);
+    return at + ROW;
+}
+
+/* A gate's bytes as a number: kind, left source, right source. Three bytes after it are read, too, and dropped. */
+static uint64_t gate_word(const uint8_t *gate)
+{
+    uint64_t bytes;
+    memcpy(&bytes, gate, 8);
+    return __builtin_bswap64(bytes) >> 24;
+}
+
+static bool gates_good(const uint8_t *gate, unsigned first, unsigned count)
+{
+    bool bad = false;
+    for (unsigned line = first; line < count; line++, gate += 5) {
+        uint64_t word = gate_word(gate);
+        bad |= (word >> 33 != 0) | ((word >> 16 & 0xffff) >= line) | ((word & 0xffff) >= line);
+    }
+    return !bad;
+}
+
+/* Writes the gates' rows, page by page. */
+static uint8_t *put_gate_rows(uint8_t *at, const uint8_t *gate, unsigned gates, unsigned first)
+{
+    uint64_t line = columns(first);
+    while (gates > 0) {
+        unsigned rows = gates < PAGE ? gates : PAGE;
+        at = put_heading(at);
+        for (const uint8_t *end = gate + 5 * rows; gate < end; gate += 5) {
+            uint64_t word = gate_word(gate);
+            at = put_row(at, line, kind_text[word >> 32], columns(word >> 16 & 0xffff), columns(word & 0xffff));
+            line = next_columns(line);
+        }
+        gates -= rows;
+    }
+    return at;
+}
+
+pilgodur_built tuned_sheet(const uint8_t *netlist, size_t netlist_len, uint8_t *text, size_t text_len)
+{
+    unsigned gates, outputs;
+    if (!netlist_fields(netlist, netlist_len, &gates, &outputs))
+        return (pilgodur_built){11, 0};
+    unsigned first = 2 + 2u * netlist[3], rows = gates + outputs;
+    const uint8_t *output = netlist + 10 + 5 * (size_t)gates;
+    if (!gates_good(netlist + 7, first, first + gates) || !outputs_good(output, outputs, first + gates))
+        return (pilgodur_built){12, 0};
+    uint32_t length = ROW * (rows + (rows + PAGE - 1) / PAGE);
+    if (text_len < length)
+        return (pilgodur_built){9, 0};
+    uint8_t *at = put_gate_rows(text, netlist + 7, gates, first);
+    for (unsigned j = 0; j < outputs; j++, output += 4) {
+        if ((gates + j) % PAGE == 0)
+            at = put_heading(at);
+        at = put_row(at, columns(j), kind_text[2], columns(two_bytes(output)), columns(two_bytes(output + 2)));
+    }
+    return (pilgodur_built){0, length};
+}

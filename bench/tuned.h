@@ -1,4 +1,4 @@
-/* The same five services in C written for speed, for the benchmark to measure against. For little-endian machines. */
+/* The same six services in C written for speed, for the benchmark to measure against. For little-endian machines. */
 #ifndef TUNED_H
 #define TUNED_H
 
@@ -12,5 +12,6 @@ uint32_t tuned_run(const uint8_t *netlist, size_t netlist_len, const uint8_t *ra
                    uint8_t *pairs, size_t pairs_len);
 pilgodur_probed tuned_probe(const uint8_t *table, size_t table_len, const uint8_t *hold, size_t hold_len,
                             uint8_t *buffer, size_t buffer_len);
+pilgodur_built tuned_sheet(const uint8_t *netlist, size_t netlist_len, uint8_t *text, size_t text_len);
 
 #endif

@@ -16,6 +16,14 @@
  *
  * HOLDS. A hold is three bytes: a line, then the value 0 or 1 at which it is held.
  *
+ * SHEET. A gate sheet is a netlist as text for paper, in rows of 21 characters and a line feed. A number stands in columns 1 to 5, a
+ * kind in 7 to 9, a line A in 11 to 15, a line B in 17 to 21, and blanks between them. Numbers are decimal and stand right with
+ * blanks before them, kinds left with blanks after them.
+ *   Gates:   a row for each: its line, AND or OR, its two sources.
+ *   Outputs: then a row for each: its number from 0 up, OUT, its true line, its false line.
+ *   Heading: " LINE KIN     A     B" and a line feed, before row 1, row 51, row 101 and so on, gates and outputs counted together.
+ * A sheet of r rows has 22 * (r + (r + 49) / 50) bytes. It determines the netlist once the count of contacts is given.
+ *
  * REFUSALS. Each service asks its questions in the sequence stated with it; the first no gives its number, and 0 is an answer. The
  * questions stand below, in PILGODUR_QUESTIONS. A refusal leaves every lent byte as it came, and every other number returned is 0.
  *
@@ -36,9 +44,9 @@
 extern "C" {
 #endif
 
-#define PILGODUR_VERSION "1.0.0"
+#define PILGODUR_VERSION "1.1.0"
 #define PILGODUR_VERSION_MAJOR 1
-#define PILGODUR_VERSION_MINOR 0
+#define PILGODUR_VERSION_MINOR 1
 #define PILGODUR_VERSION_PATCH 0
 
 /* The questions, as Q(number, name, text) for each. A no to question 6 is the refusal 6, PILGODUR_REFUSAL_TWINS. The holds of
@@ -72,6 +80,7 @@ enum pilgodur_way { PILGODUR_WAY_BOTH_LOW = 0, PILGODUR_WAY_BOTH_HIGH = 1 };
 #define PILGODUR_FILE_MAX 52842 /* a netlist file: 4 + (3 + 5 * 10560) + (3 + 4 * 8) */
 #define PILGODUR_LINES_MAX 10586 /* the lines of a netlist: 2 + 2 * 12 + 10560 */
 #define PILGODUR_PAIRS_MAX 16 /* two bytes an output */
+#define PILGODUR_SHEET_MAX 237160 /* a gate sheet: 22 * (10560 + 8) for the rows, 22 * 212 for the headings */
 
 /* A refusal is one of enum pilgodur_refusal, a way one of enum pilgodur_way. */
 typedef struct { uint32_t refusal, contacts, outputs, gates, depth; } pilgodur_checked;
@@ -106,6 +115,10 @@ uint32_t pilgodur_run(const uint8_t *netlist, size_t netlist_len, const uint8_t 
  * value of every line at that input with the line held, one byte each from line 0 up; buffer needs the length of both. */
 pilgodur_probed pilgodur_probe(const uint8_t *table, size_t table_len, const uint8_t *hold, size_t hold_len,
                                uint8_t *buffer, size_t buffer_len);
+
+/* Writes the gate sheet of a netlist, built by pilgodur_build or not. Questions 11 and 12, then 9. Writes the sheet to the start of
+ * text and returns its length; text needs at least that length. */
+pilgodur_built pilgodur_sheet(const uint8_t *netlist, size_t netlist_len, uint8_t *text, size_t text_len);
 
 #ifdef __cplusplus
 }

@@ -133,11 +133,19 @@ try list selector.table
 try list selector.netlist
 try list single.table
 try list lift.table
+try list "$(netlist 1 'OR 0 1 AND 4 4' '5 0 1 3')"
 pipe 'pilgodur build selector.table -o - | pilgodur list -'
+pipe 'pilgodur list selector.netlist | cmp - "$root/tests/expected/sheet.txt"'
+pipe 'pilgodur list widest.table | sed -n "1,3p; 51,54p; 102,104p"'
+pipe 'pilgodur list widest.table | tail -n 9'
 pipe 'pilgodur list widest.table | cksum'
 pipe 'pilgodur list widest.netlist | cksum'
 pipe 'pilgodur list - <widest.netlist | cksum'
 pipe 'pilgodur build widest.table | pilgodur list - | cksum'
+# The largest netlist: 10,560 gates and 8 outputs.
+pipe '{ echo hex:0100010c04ce40; yes 0000020003 | head -n 10560; echo 050020; yes 29592958 | head -n 8; } >largest.hex'
+pipe 'pilgodur list largest.hex | sed -n "10174,10175p; 10780,\$p"'
+pipe 'pilgodur list largest.hex | cksum'
 try list $q6
 try list $q11
 try list $q12

@@ -19,25 +19,34 @@
 #include "lent.h"
 #include "reference.h"
 
-enum { STRINGS = 5, NUMBERS = 5, REFUSALS = 15, NOISE = 1 << 18, MOST_DIFFERENCES = 10 };
-enum service { CHECK, BUILD, READ_OFF, RUN, PROBE, SERVICES };
+enum { STRINGS = 5, NUMBERS = 5, REFUSALS = 15, NOISE = 1 << 19, MOST_DIFFERENCES = 10 };
+enum service { CHECK, BUILD, READ_OFF, RUN, PROBE, SHEET, SERVICES };
 enum side { LIBRARY, REFERENCE, SIDES };
 
-static const char *const service_names[SERVICES] = {"check", "build", "read-off", "run", "probe"};
+static const char *const service_names[SERVICES] = {"check", "build", "read-off", "run", "probe", "sheet"};
 static const char *const side_names[SIDES] = {"library", "reference"};
-static const unsigned string_counts[SERVICES] = {1, 2, 1, 5, 3};
-static const unsigned number_counts[SERVICES] = {5, 2, 2, 1, 4};
+static const unsigned string_counts[SERVICES] = {1, 2, 1, 5, 3, 2};
+static const unsigned number_counts[SERVICES] = {5, 2, 2, 1, 4, 2};
 static const char *const string_names[SERVICES][STRINGS] = {
-    {"table"}, {"table", "file"}, {"table"}, {"netlist", "rails", "holds", "lines", "pairs"}, {"table", "hold", "buffer"}};
+    {"table"}, {"table", "file"}, {"table"}, {"netlist", "rails", "holds", "lines", "pairs"}, {"table", "hold", "buffer"},
+    {"netlist", "text"}};
 static const char *const number_names[SERVICES][NUMBERS] = {
     {"refusal", "contacts", "outputs", "gates", "depth"},
     {"refusal", "length"},
     {"refusal", "word"},
     {"refusal"},
-    {"refusal", "input", "output", "way"}};
+    {"refusal", "input", "output", "way"},
+    {"refusal", "length"}};
 
 /* The numbers that each service can give, as a set of bits. */
-static const unsigned possible[SERVICES] = {0x1ff, 0x3ff, 0x5ff, 0x7a01, 0x43ff};
+static const unsigned possible[SERVICES] = {0x1ff, 0x3ff, 0x5ff, 0x7a01, 0x43ff, 0x1a01};
+
+/* Sizes of netlists whose sheets are compared again and again: about the end of a page, with no gates, and the largest. */
+static const struct size {
+    unsigned gates, outputs;
+} sheet_sizes[] = {{48, 1}, {41, 8}, {49, 1}, {42, 8}, {50, 1}, {43, 8}, {99, 1}, {92, 8}, {100, 1}, {93, 8},
+                   {0, 1},  {0, 8},  {MOST_GATES, 8}};
+enum { SHEET_SIZES = sizeof sheet_sizes / sizeof *sheet_sizes };
 
 /* One call: the strings in the order of the parameters. */
 struct call {
@@ -61,6 +70,7 @@ static unsigned long cases;
 static unsigned long differences;
 static unsigned long hits[SERVICES][REFUSALS];
 static unsigned long accepted_contacts[13], accepted_outputs[9], accepted_width[9], with_constant;
+static unsigned long sheets[SHEET_SIZES];
 static struct demands demands;
 static char where[160]; /* what is being done, for the message after a fault */
 
@@ -83,6 +93,9 @@ static struct answer perform(enum side side, const struct call *call)
     } else if (call->service == RUN) {
         a.number[0] = (ours ? pilgodur_run : ref_run)(s[0].bytes, s[0].length, s[1].bytes, s[1].length, s[2].bytes,
                                                       s[2].length, s[3].bytes, s[3].length, s[4].bytes, s[4].length);
+    } else if (call->service == SHEET) {
+        pilgodur_built r = (ours ? pilgodur_sheet : ref_sheet)(s[0].bytes, s[0].length, s[1].bytes, s[1].length);
+        a = (struct answer){{r.refusal, r.length}};
     } else {
         pilgodur_probed r = (ours ? pilgodur_probe : ref_probe)(s[0].bytes, s[0].length, s[1].bytes, s[1].length, s[2].bytes,
                                                                 s[2].length);
@@ -163,7 +176,8 @@ static void report(const struct call *call, const struct answer *answers, const 
     stop_after_many();
 }
 
-static void compare(const struct call *call)
+/* Returns whether both sides answer, and the same. */
+static bool compare(const struct call *call)
 {
     struct answer answers[SIDES];
     enum place places[STRINGS];
@@ -187,6 +201,7 @@ static void compare(const struct call *call)
     uint32_t refusal = answers[REFERENCE].number[0];
     if (what == NULL && refusal < REFUSALS)
         hits[call->service][refusal]++;
+    return what == NULL && refusal == 0;
 }
 
 /* ---- Strings for a call. ---- */
@@ -197,7 +212,16 @@ static void give(struct call *call, unsigned k, const struct file *file)
     call->length[k] = file->length;
 }
 
-/* Lends a buffer of noise: as long as needed, one byte short, longer, much shorter or of no length. */
+/* Lends a buffer of noise. */
+static void lend_noise(struct call *call, unsigned k, size_t need, size_t length)
+{
+    call->content[k] = noise + roll(&dice, NOISE / 2);
+    call->length[k] = length;
+    call->written[k] = true;
+    call->need[k] = need;
+}
+
+/* Lends one that is as long as needed, one byte short, longer, much shorter or of no length. */
 static void lend_buffer(struct call *call, unsigned k, size_t need)
 {
     unsigned kind = roll(&dice, 100);
@@ -210,10 +234,7 @@ static void lend_buffer(struct call *call, unsigned k, size_t need)
         length = roll(&dice, (uint32_t)need + 1);
     else if (kind < 43)
         length = 0;
-    call->content[k] = noise + roll(&dice, NOISE / 2);
-    call->length[k] = length;
-    call->written[k] = true;
-    call->need[k] = need;
+    lend_noise(call, k, need, length);
 }
 
 static void note_accepted(const struct diagram *diagram)
@@ -324,6 +345,20 @@ static void table_case(enum service service)
     compare(&call);
 }
 
+/* A netlist damaged at questions 11 and 12, or random bytes in its place; most stay as they are. */
+static void damage_some(struct file *netlist)
+{
+    unsigned kind = roll(&dice, 100);
+    if (kind < 25)
+        damage_netlist(&dice, netlist);
+    else if (kind < 30)
+        flip_bytes(&dice, netlist);
+    else if (kind < 32)
+        random_fields(&dice, netlist);
+    else if (kind < 34)
+        random_bytes(&dice, netlist);
+}
+
 static void run_case(void)
 {
     static struct file netlist, rails, holds;
@@ -334,15 +369,7 @@ static void run_case(void)
     random_holds(&dice, lines, roll(&dice, 3), &holds);
     lend_buffer(&call, 3, lines);
     lend_buffer(&call, 4, 2 * (size_t)outputs_of(&netlist));
-    unsigned kind = roll(&dice, 100);
-    if (kind < 25)
-        damage_netlist(&dice, &netlist);
-    else if (kind < 30)
-        flip_bytes(&dice, &netlist);
-    else if (kind < 32)
-        random_fields(&dice, &netlist);
-    else if (kind < 34)
-        random_bytes(&dice, &netlist);
+    damage_some(&netlist);
     if (chance(&dice, 10))
         damage_rails(&dice, &rails);
     if (chance(&dice, 12))
@@ -353,6 +380,42 @@ static void run_case(void)
     give(&call, 1, &rails);
     give(&call, 2, &holds);
     compare(&call);
+}
+
+/* The bytes of the sheet of a netlist that gets a yes to question 11; of others some number. */
+static size_t sheet_length(const struct file *netlist)
+{
+    size_t rows = gates_of(netlist) + outputs_of(netlist), pages = (rows + 49) / 50;
+    return 22 * (rows + pages);
+}
+
+static void sheet_case(void)
+{
+    static struct file netlist;
+    struct call call = {.service = SHEET};
+    draw_netlist(&netlist);
+    lend_buffer(&call, 1, sheet_length(&netlist));
+    damage_some(&netlist);
+    call.need[1] = sheet_length(&netlist);
+    give(&call, 0, &netlist);
+    compare(&call);
+}
+
+/* A sheet of each size, in a buffer that is as long as needed, one byte short and longer. */
+static void compare_sizes(void)
+{
+    static struct file netlist;
+    for (unsigned i = 0; i < SHEET_SIZES; i++) {
+        unsigned contacts = sheet_sizes[i].gates == MOST_GATES ? 12 : 1 + roll(&dice, 12);
+        netlist_of_size(&dice, contacts, sheet_sizes[i].gates, sheet_sizes[i].outputs, &netlist);
+        size_t need = sheet_length(&netlist);
+        for (unsigned k = 0; k < 3; k++) {
+            struct call call = {.service = SHEET};
+            give(&call, 0, &netlist);
+            lend_noise(&call, 1, need, k == 0 ? need : k == 1 ? need - 1 : need + 1 + roll(&dice, 40));
+            sheets[i] += compare(&call);
+        }
+    }
 }
 
 /* Every line of a small board at both values. */
@@ -391,14 +454,16 @@ static void check_some_board(void)
 static void random_case(void)
 {
     unsigned kind = roll(&dice, 100);
-    if (kind < 18)
+    if (kind < 17)
         table_case(CHECK);
-    else if (kind < 38)
+    else if (kind < 35)
         table_case(BUILD);
-    else if (kind < 54)
+    else if (kind < 49)
         table_case(READ_OFF);
-    else if (kind < 70)
+    else if (kind < 64)
         table_case(PROBE);
+    else if (kind < 73)
+        sheet_case();
     else
         run_case();
 }
@@ -438,6 +503,19 @@ static bool print_counts(const char *what, const unsigned long *count, unsigned 
     return all;
 }
 
+/* How often both sides gave the same sheet of each size. */
+static bool print_sheets(void)
+{
+    bool all = true;
+    printf("sheets by gates and outputs:");
+    for (unsigned i = 0; i < SHEET_SIZES; i++) {
+        printf("%s %u+%u: %lu", i == 0 ? "" : ",", sheet_sizes[i].gates, sheet_sizes[i].outputs, sheets[i]);
+        all = all && sheets[i] != 0;
+    }
+    printf("\n");
+    return all;
+}
+
 static int summary(void)
 {
     printf("seed %" PRIu64 ", %lu cases\n", seed, cases);
@@ -445,11 +523,12 @@ static int summary(void)
     all = print_counts("contacts", accepted_contacts, 1, 12) && all;
     all = print_counts("outputs", accepted_outputs, 1, 8) && all;
     all = print_counts("largest width", accepted_width, 2, 8) && all;
+    all = print_sheets() && all;
     printf("accepted tables with a constant output: %lu\n", with_constant);
-    printf("boards checked by themselves: %lu, with %lu runs, %lu sets of lines held one way, %lu probes\n", demands.boards,
-           demands.inputs, demands.hold_sets, demands.probes);
+    printf("boards checked by themselves: %lu, with %lu sheets, %lu runs, %lu sets of lines held one way, %lu probes\n",
+           demands.boards, demands.sheets, demands.inputs, demands.hold_sets, demands.probes);
     if (!all || with_constant == 0)
-        printf("not every number that a service can give, and only those, was hit, or a size of table was missed\n");
+        printf("not every number that a service can give, and only those, was hit, or a size of table or sheet was missed\n");
     printf("%lu differences\n", differences + demands.failures);
     return all && with_constant != 0 && differences + demands.failures == 0 ? 0 : 1;
 }
@@ -502,6 +581,8 @@ int main(int argc, char **argv)
     watch_faults();
     for (uint64_t i = 0; cases < count; i++) {
         random_case();
+        if (i % 20000 == 0)
+            compare_sizes();
         if (i % 200 == 0)
             probe_all_lines();
         if (i % 50 == 0)

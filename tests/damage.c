@@ -344,9 +344,14 @@ unsigned contacts_of(const struct file *netlist)
     return netlist->bytes[3];
 }
 
+unsigned gates_of(const struct file *netlist)
+{
+    return (unsigned)field_length(netlist, 4) / 5;
+}
+
 unsigned lines_of(const struct file *netlist)
 {
-    return 2 + 2 * contacts_of(netlist) + (unsigned)field_length(netlist, 4) / 5;
+    return 2 + 2 * contacts_of(netlist) + gates_of(netlist);
 }
 
 unsigned outputs_of(const struct file *netlist)
@@ -372,6 +377,11 @@ void random_netlist(struct dice *dice, struct file *file)
     unsigned contacts = 1 + roll(dice, 12);
     unsigned gates = random_gate_count(dice);
     unsigned outputs = 1 + roll(dice, 8);
+    netlist_of_size(dice, contacts, gates, outputs, file);
+}
+
+void netlist_of_size(struct dice *dice, unsigned contacts, unsigned gates, unsigned outputs, struct file *file)
+{
     bool chained = chance(dice, 30);
     unsigned line = 2 + 2 * contacts;
     file->length = 0;

@@ -22,11 +22,16 @@ void random_fields(struct dice *dice, struct file *file);
 
 /* A netlist that gets a yes to questions 11 and 12, with up to 10,560 gates. */
 void random_netlist(struct dice *dice, struct file *file);
+
+/* The same with these counts. */
+void netlist_of_size(struct dice *dice, unsigned contacts, unsigned gates, unsigned outputs, struct file *file);
+
 void damage_netlist(struct dice *dice, struct file *file);
 
 /* The counts of a netlist that gets a yes to question 11; of others some numbers. */
 unsigned contacts_of(const struct file *netlist);
 unsigned lines_of(const struct file *netlist);
+unsigned gates_of(const struct file *netlist);
 unsigned outputs_of(const struct file *netlist);
 
 void code_rails(unsigned contacts, uint32_t input, struct file *rails);

@@ -8,7 +8,7 @@
 #include "../include/pilgodur.h"
 #include "damage.h"
 
-enum { SMALL_BOARD = 60, SMALL_WORK = 100000, SOME_INPUTS = 16, HOLD_SETS = 12, SEEN = 1 << 17 };
+enum { SMALL_BOARD = 60, SMALL_WORK = 100000, SOME_INPUTS = 16, HOLD_SETS = 12, SEEN = 1 << 17, ROW = 22 };
 
 struct board {
     const struct diagram *diagram;
@@ -136,6 +136,63 @@ static bool check_new_netlist(const struct board *board)
     return true;
 }
 
+/* ---- The sheet, read back into a netlist file. ---- */
+
+/* The number that stands in five columns. */
+static unsigned number_at(const uint8_t *columns)
+{
+    unsigned number = 0;
+    for (unsigned i = 0; i < 5; i++)
+        if (columns[i] != ' ')
+            number = 10 * number + columns[i] - '0';
+    return number;
+}
+
+static uint8_t *put_two(uint8_t *at, unsigned number)
+{
+    at[0] = (uint8_t)(number / 256);
+    at[1] = (uint8_t)number;
+    return at + 2;
+}
+
+/* Writes what the rows from *row on give, as long as they are outputs, or are not, and their numbers rise from `number` by one.
+ * Headings are passed over. Returns the end of what it wrote and moves *row to where it stopped. */
+static uint8_t *read_rows(const uint8_t **row, const uint8_t *end, bool outputs, unsigned number, uint8_t *at)
+{
+    for (; end - *row >= ROW; *row += ROW) {
+        const uint8_t *kind = *row + 6;
+        if (memcmp(*row, " LINE KIN     A     B\n", ROW) == 0)
+            continue;
+        if ((memcmp(kind, "OUT", 3) == 0) != outputs || number_at(*row) != number++)
+            break;
+        if (!outputs)
+            *at++ = memcmp(kind, "OR ", 3) == 0;
+        at = put_two(put_two(at, number_at(*row + 10)), number_at(*row + 16));
+    }
+    return at;
+}
+
+static bool check_sheet(const struct board *board)
+{
+    static uint8_t text[PILGODUR_SHEET_MAX];
+    static uint8_t back[FILE_ROOM];
+    pilgodur_built sheet = pilgodur_sheet(netlist.bytes, netlist.length, text, sizeof text);
+    const uint8_t *row = text, *end = text + sheet.length;
+    unsigned contacts = board->diagram->contacts;
+    board->demands->sheets++;
+    if (sheet.refusal != 0 || sheet.length > sizeof text)
+        return fail(board, "a sheet is refused with %" PRIu32 ", or has %" PRIu32 " bytes", sheet.refusal, sheet.length);
+    memcpy(back, (uint8_t[]){1, 0, 1, (uint8_t)contacts, 4}, 5);
+    uint8_t *outputs = read_rows(&row, end, false, 2 + 2 * contacts, back + 7);
+    put_two(back + 5, (unsigned)(outputs - back - 7));
+    uint8_t *after = read_rows(&row, end, true, 0, outputs + 3);
+    outputs[0] = 5;
+    put_two(outputs + 1, (unsigned)(after - outputs - 3));
+    if (row != end || (size_t)(after - back) != netlist.length || memcmp(back, netlist.bytes, netlist.length) != 0)
+        return fail(board, "the sheet, read back, is not the netlist");
+    return true;
+}
+
 /* ---- Runs. ---- */
 
 static bool run_board(const struct board *board, uint32_t input)
@@ -253,6 +310,7 @@ void check_board(struct dice *dice, const struct diagram *diagram, struct demand
 {
     struct board board = {.diagram = diagram, .demands = demands};
     demands->boards++;
-    if (build_board(&board) && check_new_netlist(&board) && check_all_permits(dice, &board) && check_hold_sets(dice, &board))
+    if (build_board(&board) && check_new_netlist(&board) && check_sheet(&board) && check_all_permits(dice, &board) &&
+        check_hold_sets(dice, &board))
         check_probes(&board);
 }

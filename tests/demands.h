@@ -5,11 +5,12 @@
 #include "tables.h"
 
 struct demands {
-    unsigned long boards, inputs, hold_sets, probes, failures;
+    unsigned long boards, sheets, inputs, hold_sets, probes, failures;
 };
 
 /* Builds the board of an accepted diagram and checks
  *   its netlist: gates and depth as reported and within the formulas, never the netlist of another table seen before;
+ *   its sheet: read back, with the count of contacts, it is the netlist;
  *   its permits: at every code input each pair shows the table's value and its opposite;
  *   random sets of lines held all at 0 or all at 1: no pair shows the wrong code;
  *   on small boards every line held at 0 and at 1: probe finds the smallest input that shows it.

@@ -63,6 +63,9 @@ echo 'hex:0100010304002d0000030005000002000500000300040000020004010008000900000c
 sed -n '/^    \$ pilgodur compare/,/^$/p' "$root/README.md" | sed '1d; $d; s/^    //' >compared
 "$bench" compare selector.table theirs.netlist >said
 same "README's example of compare" said compared
+sed -n '/^    \$ pilgodur list/,/^$/p' "$root/README.md" | sed '1d; $d; s/^    //' >listing
+"$bench" list selector.table >said
+same "README's example of list" said listing
 
 "$bench" --help | sed -n 's/^  \([a-z][a-z-]*\) .*/\1/p' >commands
 while read -r command; do

@@ -1,8 +1,8 @@
-/* Calls of the system that fail by wish, for the bench program linked with --wrap: the variable FAIL names one of
- *   mkstemp fchmod write fsync close rename   each fails with EIO
- *   short_write                               a write that takes some bytes, then one that fails
- *   few_bytes interrupted                     every write takes at most 7 bytes; every second write is interrupted
- *   terminated                                a signal that ends the program arrives before the first write */
+/* Calls of the system that fail by wish, for the programs linked with --wrap: the variable FAIL names one of
+ *   mkstemp fchmod write fsync close rename read   each fails with EIO
+ *   short_write short_read                         one that takes some bytes, then one that fails
+ *   few_bytes interrupted                          each write and read takes at most 7 bytes; every second one is interrupted
+ *   terminated                                     a signal that ends the program arrives before the first write */
 #define _XOPEN_SOURCE 700
 #include <errno.h>
 #include <signal.h>
@@ -18,6 +18,7 @@ ssize_t __real_write(int file, const void *bytes, size_t length);
 int __real_fsync(int file);
 int __real_close(int file);
 int __real_rename(const char *from, const char *to);
+ssize_t __real_read(int file, void *bytes, size_t length);
 
 int __wrap_mkstemp(char *pattern);
 int __wrap_fchmod(int file, mode_t mode);
@@ -25,6 +26,7 @@ ssize_t __wrap_write(int file, const void *bytes, size_t length);
 int __wrap_fsync(int file);
 int __wrap_close(int file);
 int __wrap_rename(const char *from, const char *to);
+ssize_t __wrap_read(int file, void *bytes, size_t length);
 
 static bool wished(const char *name)
 {
@@ -48,20 +50,34 @@ int __wrap_fchmod(int file, mode_t mode)
     return fails("fchmod") ? -1 : __real_fchmod(file, mode);
 }
 
+/* The bytes that a write or a read of this number may take, or -1 if it fails. */
+static ssize_t allowed(unsigned number, size_t length, const char *name, const char *short_name)
+{
+    if (wished("interrupted") && number % 2 == 1) {
+        errno = EINTR;
+        return -1;
+    }
+    if (fails(name) || (number > 1 && fails(short_name)))
+        return -1;
+    bool few = wished("few_bytes") || wished(short_name);
+    return (ssize_t)(few && length > 7 ? 7 : length);
+}
+
 ssize_t __wrap_write(int file, const void *bytes, size_t length)
 {
     static unsigned writes;
     writes++;
     if (wished("terminated") && writes == 1)
         raise(SIGTERM);
-    if (wished("interrupted") && writes % 2 == 1) {
-        errno = EINTR;
-        return -1;
-    }
-    if (fails("write") || (writes > 1 && fails("short_write")))
-        return -1;
-    bool few = wished("few_bytes") || wished("short_write");
-    return __real_write(file, bytes, few && length > 7 ? 7 : length);
+    ssize_t some = allowed(writes, length, "write", "short_write");
+    return some < 0 ? some : __real_write(file, bytes, (size_t)some);
+}
+
+ssize_t __wrap_read(int file, void *bytes, size_t length)
+{
+    static unsigned reads;
+    ssize_t some = allowed(++reads, length, "read", "short_read");
+    return some < 0 ? some : __real_read(file, bytes, (size_t)some);
 }
 
 int __wrap_fsync(int file)

@@ -7,7 +7,7 @@
 #include <stddef.h>
 #include <stdint.h>
 
-enum { GUARD = 64, AREA = 2 * 65536 };
+enum { GUARD = 64, AREA = 4 * 65536 };
 
 /* Where in its area a string lies: right after the page before it, right before the page after it, or in between. */
 enum place { AT_START, AT_END, BETWEEN, PLACES };

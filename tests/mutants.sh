@@ -1,9 +1,9 @@
 #!/bin/bash
-# Wrong versions of the bench program: each is made by an edit of one file, and some test must fail on it.
+# Wrong versions of the bench program and of the program sheet: each is made by an edit of one file, and some test must fail on it.
 #
 #     tests/mutants.sh COMPILE FAILING LIBRARY
 #
-# COMPILE is the compiler with its flags, FAILING the flags that link the bench so that calls can be made to fail. Everything goes to
+# COMPILE is the compiler with its flags, FAILING the flags that link a program so that calls can be made to fail. Everything goes to
 # build/mutants. A wrong version could harm files of the system, so for root it runs as a user without rights. The right version must
 # pass first. If the variable ONLY is set just the wrong versions are tried whose description has it. Exit status 0: every one was
 # found out.
@@ -45,17 +45,26 @@ tested() {
         limited tests/exports_test.sh "$1" build/readback build/netlists "$folder/exports"
 }
 
-# wrong FILE WHAT EDIT: the bench with one file edited by sed.
+tested_sheet() {
+    limited tests/sheet_test.sh "$1" "$2" build/netlists "$folder/sheet_test"
+}
+
+# edited FILE WHAT EDIT: makes the file edited by sed, if this version is asked for and the edit changes something.
+edited() {
+    [[ $2 == *"${ONLY-}"* ]] || return
+    count=$((count + 1))
+    sed "$3" "bench/$1.c" >"$folder/bench/$1.c"
+    if cmp -s "bench/$1.c" "$folder/bench/$1.c"; then
+        echo "NOT MADE: $2 ($1.c)"
+        survivors=$((survivors + 1))
+        return 1
+    fi
+}
+
+# wrong FILE WHAT EDIT: the bench with one file edited.
 wrong() {
     local file=$1 what=$2 objects=()
-    [[ $what == *"${ONLY-}"* ]] || return
-    count=$((count + 1))
-    sed "$3" "bench/$file.c" >"$folder/bench/$file.c"
-    if cmp -s "bench/$file.c" "$folder/bench/$file.c"; then
-        echo "NOT MADE: $what ($file.c)"
-        survivors=$((survivors + 1))
-        return
-    fi
+    edited "$@" || return
     for object in build/program/*.o; do
         [ "$object" = "build/program/$file.o" ] || objects+=("$object")
     done
@@ -71,7 +80,23 @@ wrong() {
     fi
 }
 
-if ! tested "$root/build/pilgodur" "$root/build/pilgodur-failing" >"$folder/log" 2>&1; then
+# wrong_sheet WHAT EDIT: the program sheet edited.
+wrong_sheet() {
+    local shared=(build/program/save.o build/program/report.o)
+    edited sheet "$@" || return
+    if ! "${compile[@]}" -w "$folder/bench/sheet.c" "${shared[@]}" "$library" -o "$folder/sheet" 2>"$folder/log" ||
+        ! "${compile[@]}" -w "${failing[@]}" "$folder/bench/sheet.c" "${shared[@]}" tests/failing.c "$library" -o "$folder/failing" 2>>"$folder/log"; then
+        echo "NOT COMPILED: $1 (sheet.c)"
+        cat "$folder/log"
+        survivors=$((survivors + 1))
+    elif tested_sheet "$folder/sheet" "$folder/failing" >"$folder/log" 2>&1; then
+        echo "SURVIVED: $1 (sheet.c)"
+        survivors=$((survivors + 1))
+    fi
+}
+
+if ! tested "$root/build/pilgodur" "$root/build/pilgodur-failing" >"$folder/log" 2>&1 ||
+    ! tested_sheet "$root/build/sheet" "$root/build/sheet-failing" >"$folder/log" 2>&1; then
     cat "$folder/log"
     echo "the right version fails, so nothing is known of the wrong ones"
     exit 1
@@ -133,7 +158,14 @@ wrong show "pairs false rail first" 's/"output %u: %u%u %s.n", output, yes, no/"
 wrong on_table "line values from one line further on" 's/room + netlist,/room + netlist + 1,/'
 wrong on_table "build with -o writes text" 's/request->output != NULL/false/'
 wrong on_table "output 0 has the largest weight" 's/reading.word >> j/reading.word >> (checked.outputs - 1 - j)/'
-wrong on_netlist "gates are numbered from 0" 's/first_gate(&netlist) + g, gate.kind/g, gate.kind/'
+wrong on_netlist "the sheet without its heading" 's/fwrite(text, 1, sheet.length, out)/fwrite(text + 22, 1, sheet.length - 22, out)/'
+wrong on_netlist "the sheet without its last row" 's/fwrite(text, 1, sheet.length, out)/fwrite(text, 1, sheet.length - 22, out)/'
+wrong on_netlist "the sheet without its last line feed" 's/fwrite(text, 1, sheet.length, out)/fwrite(text, 1, sheet.length - 1, out)/'
+wrong on_netlist "the sheet with the rest of its room" 's/fwrite(text, 1, sheet.length, out)/fwrite(text, 1, sizeof text, out)/'
+wrong on_netlist "room for a sheet is a byte short" 's/text\[PILGODUR_SHEET_MAX\]/text[PILGODUR_SHEET_MAX - 1]/'
+wrong on_netlist "the sheet with a line feed more" 's/fwrite(text, 1, sheet.length, out)/fprintf(out, "%s\\n", (char *)text)/'
+wrong on_netlist "the sheet is asked of the file and not of the netlist" 's/pilgodur_sheet(netlist.bytes, netlist.length/pilgodur_sheet(request->file[0].at, request->file[0].length/'
+wrong on_netlist "sheets on standard error" 's/fwrite(text, 1, sheet.length, out)/fwrite(text, 1, sheet.length, stderr)/'
 wrong on_netlist "only the first hold is used" 's/holds->at, 3 \* count, lines/holds->at, count > 0 ? 3 : 0, lines/'
 wrong on_netlist "the netlist is not asked about before the input" 's/struct netlist netlist = netlist_in(load_operand(request, 0));/uint8_t room[PILGODUR_FILE_MAX]; struct netlist netlist = netlist_in_or_of(load_operand(request, 0), room);/'
 wrong on_netlist "the first hold is named for any" 's/return count - 1;/return 0;/'
@@ -163,5 +195,27 @@ wrong options "standard input is read twice" 's/if (standard_inputs > 1)/if (fal
 wrong options "the last -o counts" 's/if (request->output != NULL)/if (false)/'
 wrong pilgodur "an answer is not written" 's/    save(request.output/    if (status != ANSWERED) &/'
 
-echo "wrong versions of the bench: $count, not found out: $survivors"
+wrong_sheet "reading stops after the first piece" 's/while (length < ROOM && count != 0)/if (length < ROOM \&\& count != 0)/'
+wrong_sheet "each piece is read over the one before" 's/netlist + length, ROOM - length/netlist, ROOM - length/'
+wrong_sheet "an interrupted read fails" 's/count < 0 && errno != EINTR/count < 0/'
+wrong_sheet "an interrupted read is the end" 's/length < ROOM && count != 0/length < ROOM \&\& count > 0/'
+wrong_sheet "a read that fails is the end" 's/fail(FAILED, "standard input.*/break;/'
+wrong_sheet "a read that fails is wrong usage" 's/fail(FAILED, "standard input/fail(MISUSED, "standard input/'
+wrong_sheet "a netlist with a byte too many is cut off" 's/ROOM = PILGODUR_FILE_MAX + 1/ROOM = PILGODUR_FILE_MAX/'
+wrong_sheet "the longest netlist is cut off" 's/ROOM = PILGODUR_FILE_MAX + 1/ROOM = PILGODUR_FILE_MAX - 1/'
+wrong_sheet "the longest sheet is refused" 's/(uint8_t \*)text, sizeof text)/(uint8_t *)text, sizeof text - 1)/'
+wrong_sheet "arguments are ignored" 's/if (argc > 1)/if (false)/'
+wrong_sheet "wrong usage is a refusal" 's/return MISUSED;/return SAID_NO;/'
+wrong_sheet "usage on standard output" 's/NETLIST.n", stderr)/NETLIST\\n", stdout)/'
+wrong_sheet "a refusal is an answer" 's/sheet.refusal == 0 ? ANSWERED : SAID_NO/ANSWERED/'
+wrong_sheet "a refusal prints nothing" 's/    save(NULL, text/    if (sheet.refusal == 0)\n    &/'
+wrong_sheet "a refusal without a line feed" 's/PRIu32 ".n"/PRIu32/'
+wrong_sheet "a refusal with words" 's/"%" PRIu32 ".n"/"refused: %" PRIu32 "\\n"/'
+wrong_sheet "a refusal on standard error" 's/length = (size_t)snprintf(text, sizeof text,/length = 0 * (size_t)fprintf(stderr,/'
+wrong_sheet "a refusal with a byte 0 at its end" 's/length = (size_t)snprintf/length = 1 + (size_t)snprintf/'
+wrong_sheet "the sheet without its last row" 's/length = sheet.length;/length = sheet.length - 22;/'
+wrong_sheet "a sheet of at most 65,535 bytes" 's/length = sheet.length;/length = (uint16_t)sheet.length;/'
+wrong_sheet "messages in the name of the bench" 's/program_name\[\] = "sheet"/program_name[] = "pilgodur"/'
+
+echo "wrong versions of the programs: $count, not found out: $survivors"
 [ "$survivors" -eq 0 ]

@@ -1,5 +1,7 @@
 /* Tables become linked nodes, netlists become linked symbolic terms that get their numbers last, permits are read off truth
- * tables, and lines are worked out by need, from the outputs back to the rails. Clarity before speed. */
+ * tables, lines are worked out by need, from the outputs back to the rails, and sheets are printed row by row to a stream. Clarity
+ * before speed. */
+#define _XOPEN_SOURCE 700
 #include "reference.h"
 
 #include <stdbool.h>
@@ -18,13 +20,17 @@ struct pool {
     struct piece *last;
 };
 
+static _Noreturn void run_out(void)
+{
+    fputs("reference: out of memory\n", stderr);
+    abort();
+}
+
 static void *take(struct pool *pool, size_t size)
 {
     struct piece *piece = calloc(1, sizeof *piece + size);
-    if (piece == NULL) {
-        fputs("reference: out of memory\n", stderr);
-        abort();
-    }
+    if (piece == NULL)
+        run_out();
     piece->before = pool->last;
     pool->last = piece;
     return piece->content;
@@ -624,6 +630,29 @@ static void search(struct netlist *netlist, pilgodur_probed *probed)
     abort();
 }
 
+/* ---- Sheets. ---- */
+
+static void print_row(FILE *out, unsigned number, const char *kind, unsigned a, unsigned b)
+{
+    fprintf(out, "%5u %-3s %5u %5u\n", number, kind, a, b);
+}
+
+static void print_sheet(FILE *out, const struct netlist *netlist)
+{
+    for (unsigned row = 1; row <= netlist->gates + netlist->outputs; row++) {
+        if (row % 50 == 1)
+            fputs(" LINE KIN     A     B\n", out);
+        if (row <= netlist->gates) {
+            unsigned line = netlist->lines - netlist->gates + row - 1;
+            const struct wire *gate = &netlist->wire[line];
+            print_row(out, line, gate->kind == 0 ? "AND" : "OR", gate->left, gate->right);
+        } else {
+            unsigned output = row - netlist->gates - 1;
+            print_row(out, output, "OUT", netlist->pair[output][0], netlist->pair[output][1]);
+        }
+    }
+}
+
 /* ---- The services. ---- */
 
 pilgodur_checked ref_check(const uint8_t *table, size_t table_len)
@@ -748,6 +777,30 @@ pilgodur_probed ref_probe(const uint8_t *table, size_t table_len, const uint8_t 
     answer.refusal = read_table(&pool, table, table_len, &diagram);
     if (answer.refusal == 0)
         answer = probe(&pool, &diagram, hold, hold_len, buffer, buffer_len);
+    give_back(&pool);
+    return answer;
+}
+
+pilgodur_built ref_sheet(const uint8_t *netlist, size_t netlist_len, uint8_t *text, size_t text_len)
+{
+    struct pool pool = {NULL};
+    struct netlist board = {0};
+    pilgodur_built answer = {0};
+    answer.refusal = read_netlist(&pool, netlist, netlist_len, &board);
+    if (answer.refusal == 0) {
+        char *sheet = NULL;
+        size_t length = 0;
+        FILE *out = open_memstream(&sheet, &length);
+        if (out == NULL)
+            run_out();
+        print_sheet(out, &board);
+        if (fclose(out) != 0)
+            run_out();
+        answer.refusal = text_len < length ? 9 : 0;
+        answer.length = text_len < length ? 0 : (uint32_t)length;
+        memcpy(text, sheet, answer.length);
+        free(sheet);
+    }
     give_back(&pool);
     return answer;
 }

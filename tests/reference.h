@@ -1,4 +1,4 @@
-/* The independent implementation of the five services, written from the rules alone. Same arguments and answers as pilgodur.h. */
+/* The independent implementation of the six services, written from the rules alone. Same arguments and answers as pilgodur.h. */
 #ifndef REFERENCE_H
 #define REFERENCE_H
 
@@ -12,5 +12,6 @@ uint32_t ref_run(const uint8_t *netlist, size_t netlist_len, const uint8_t *rail
                  uint8_t *pairs, size_t pairs_len);
 pilgodur_probed ref_probe(const uint8_t *table, size_t table_len, const uint8_t *hold, size_t hold_len,
                           uint8_t *buffer, size_t buffer_len);
+pilgodur_built ref_sheet(const uint8_t *netlist, size_t netlist_len, uint8_t *text, size_t text_len);
 
 #endif

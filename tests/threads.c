@@ -34,10 +34,12 @@ struct answers {
     pilgodur_reading reading;
     uint32_t run;
     pilgodur_probed probed;
+    pilgodur_built sheet;
     uint8_t file[PILGODUR_FILE_MAX];
     uint8_t lines[PILGODUR_LINES_MAX];
     uint8_t pairs[PILGODUR_PAIRS_MAX];
     uint8_t probe[BUFFER];
+    uint8_t text[PILGODUR_SHEET_MAX];
 };
 
 static struct board boards[BOARDS];
@@ -54,6 +56,7 @@ static void ask(const struct board *b, struct answers *a)
     a->run = pilgodur_run(b->netlist, b->netlist_length, b->rails, b->rails_length, b->hold, sizeof b->hold, a->lines,
                           sizeof a->lines, a->pairs, sizeof a->pairs);
     a->probed = pilgodur_probe(b->table, b->table_length, b->hold, sizeof b->hold, a->probe, sizeof a->probe);
+    a->sheet = pilgodur_sheet(b->netlist, b->netlist_length, a->text, sizeof a->text);
 }
 
 static void draw_board(struct dice *dice, struct board *b)

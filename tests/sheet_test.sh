@@ -1,0 +1,160 @@
+#!/bin/sh
+# Runs the program sheet on netlists and on what is none, and looks at what it writes to either stream and at its exit status.
+#
+#     tests/sheet_test.sh SHEET FAILING NETLISTS [RESULTS]
+#
+# FAILING is the program with calls of the system that fail by wish (tests/failing.c). NETLISTS writes a netlist of a given size
+# (tests/netlists.c). RESULTS, build/sheet_test if it is left out, is emptied and gets the netlists and sheets.
+set -u
+LC_ALL=C
+export LC_ALL
+
+if [ $# -lt 3 ]; then
+    echo "usage: tests/sheet_test.sh SHEET FAILING NETLISTS [RESULTS]" >&2
+    exit 2
+fi
+root=$(cd "$(dirname "$0")/.." && pwd) || exit 2
+program=$(realpath "$1") && failing=$(realpath "$2") && netlists=$(realpath "$3") || exit 2
+results=${4:-$root/build/sheet_test}
+rm -rf "$results" && mkdir -p "$results" && cp "$root"/examples/selector.* "$results" && cd "$results" || exit 2
+
+trials=0
+failures=0
+
+complain() {
+    echo "FAILED: $*"
+    failures=$((failures + 1))
+}
+
+# expect STATUS FILE MESSAGE COMMAND LINE: this line of the shell, in which sheet is the program, ends with this status, prints what
+# the file holds, and says this on standard error.
+sheet() {
+    timeout 60 "$program" "$@"
+}
+failing_sheet() {
+    FAIL=$1 timeout 60 "$failing"
+}
+expect() {
+    status=$1 file=$2 message=$3
+    shift 3
+    trials=$((trials + 1))
+    eval "$*" >out 2>err
+    ended=$?
+    [ $ended -eq "$status" ] || complain "$*: status $ended, not $status"
+    cmp out "$file" || complain "$*: another text than $file"
+    [ "$(cat err)" = "$message" ] || complain "$*: said: $(cat err)"
+}
+
+# same WHAT TEXT TEXT
+same() {
+    [ "$2" = "$3" ] || complain "$1: $2, not $3"
+}
+
+# rows NETLIST: a row for each gate and output, from the netlist's bytes.
+rows() {
+    od -An -v -tu1 "$1" | awk '
+        function two(at) { return 256 * byte[at] + byte[at + 1] }
+        { for (i = 1; i <= NF; i++) byte[count++] = $i }
+        END {
+            gates = two(5) / 5
+            for (g = 0; g < gates; g++)
+                printf "%5d %-3s %5d %5d\n", 2 + 2 * byte[3] + g, byte[7 + 5 * g] == 0 ? "AND" : "OR", two(8 + 5 * g), two(10 + 5 * g)
+            for (at = 10 + 5 * gates; at < count; at += 4)
+                printf "%5d %-3s %5d %5d\n", j++, "OUT", two(at), two(at + 2)
+        }'
+}
+
+# size CONTACTS GATES OUTPUTS HEADINGS: the sheet of a netlist of this size has every row, and the heading in these lines alone.
+heading='^ LINE KIN     A     B$'
+size() {
+    name=$2+$3
+    trials=$((trials + 1))
+    "$netlists" "$2" "$1" "$2" "$3" >"$name.netlist"
+    rows "$name.netlist" >"$name.rows"
+    timeout 60 "$program" <"$name.netlist" >"$name.sheet" 2>err
+    same "$name: status" $? 0
+    same "$name: standard error" "$(cat err)" ''
+    same "$name: headings" "$(grep -n "$heading" "$name.sheet" | sed 's/:.*//' | tr '\n' ' ')" "$4 "
+    same "$name: rows" "$(wc -l <"$name.rows")" $(($2 + $3))
+    sed "/$heading/d" "$name.sheet" | cmp - "$name.rows" || complain "$name: rows"
+}
+
+expected=$root/tests/expected/sheet.txt
+: >nothing
+echo 11 >eleven
+echo 12 >twelve
+
+# The selector: heading, row one, last row, and the whole of it.
+expect 0 "$expected" '' 'sheet <selector.netlist'
+same 'row one' "$(sed -n 2p out)" '    8 AND     3     5'
+same 'the last row' "$(sed -n '$p' out)" '    0 OUT    16    14'
+same 'the bytes of the selector' "$(wc -c <out)" 242
+
+# About the end of a page, with outputs on a page of their own; no gates; the largest, with lines of five digits.
+size 1 48 1 '1'
+size 12 41 8 '1'
+size 3 49 1 '1'
+size 3 42 8 '1'
+size 3 50 1 '1 52'
+size 3 43 8 '1 52'
+size 5 99 1 '1 52'
+size 5 92 8 '1 52'
+size 5 100 1 '1 52 103'
+size 5 93 8 '1 52 103'
+size 1 0 1 '1'
+size 12 0 8 '1'
+size 12 10560 8 "$(seq -s ' ' 1 51 10762)"
+same 'the bytes of the largest' "$(wc -c <10560+8.sheet)" 237160
+same 'the last gate of the largest' "$(grep -c '^10585 ' 10560+8.sheet)" 1
+largest=10560+8.netlist
+same 'the bytes of the largest netlist' "$(wc -c <$largest)" 52842
+
+# What is no netlist: nothing, a table, hex: text, a byte too few, a byte too many, no outputs, 13 contacts; however long it is.
+printf '\001\000\001\001\004\000\000' >no-outputs
+printf '\001\000\001\015\004\000\000\005\000\004\000\002\000\003' >13-contacts
+expect 1 eleven '' 'sheet </dev/null'
+expect 1 eleven '' 'sheet <selector.table'
+expect 1 eleven '' 'printf hex:0100010104000005000400020003 | sheet'
+expect 1 eleven '' 'head -c 58 selector.netlist | sheet'
+expect 1 eleven '' '{ cat selector.netlist; echo; } | sheet'
+expect 1 eleven '' 'sheet <no-outputs'
+expect 1 eleven '' 'sheet <13-contacts'
+expect 1 eleven '' "{ cat $largest; printf x; } | sheet"
+expect 1 eleven '' "cat $largest $largest | sheet"
+expect 1 eleven '' 'sheet </dev/zero'
+expect 1 eleven '' 'yes 2>/dev/null | sheet'
+# A kind 2, a source that is its gate's own line, an output line that is not there.
+printf '\001\000\001\001\004\000\005\002\000\002\000\003\005\000\004\000\004\000\003' >kind
+printf '\001\000\001\001\004\000\005\000\000\002\000\004\005\000\004\000\004\000\003' >source
+printf '\001\000\001\001\004\000\005\000\000\002\000\003\005\000\004\000\005\000\003' >output
+for netlist in kind source output; do
+    expect 1 twelve '' "sheet <$netlist"
+done
+
+# Input in small pieces.
+expect 0 "$expected" '' 'dd if=selector.netlist bs=1 2>/dev/null | sheet'
+expect 0 "$expected" '' '{ head -c 5 selector.netlist; sleep 0.1; tail -c +6 selector.netlist; } | sheet'
+expect 0 10560+8.sheet '' "cat $largest | sheet"
+expect 0 10560+8.sheet '' "failing_sheet few_bytes <$largest"
+expect 0 10560+8.sheet '' "failing_sheet interrupted <$largest"
+expect 1 twelve '' 'failing_sheet few_bytes <kind'
+expect 1 twelve '' 'failing_sheet interrupted <kind'
+
+# An argument, and streams that fail.
+for argument in selector.netlist - --help "''"; do
+    expect 2 nothing 'usage: sheet <NETLIST' "sheet $argument <selector.netlist"
+done
+expect 3 nothing 'sheet: standard input: Bad file descriptor' 'sheet <&-'
+expect 3 nothing 'sheet: standard input: Is a directory' 'sheet <.'
+expect 3 nothing 'sheet: standard input: Input/output error' 'failing_sheet read <selector.netlist'
+expect 3 nothing 'sheet: standard input: Input/output error' 'failing_sheet short_read <selector.netlist'
+for netlist in selector.netlist kind $largest; do
+    expect 3 nothing 'sheet: standard output: No space left on device' "sheet <$netlist >/dev/full"
+    expect 3 nothing 'sheet: standard output: Bad file descriptor' "sheet <$netlist >&-"
+    expect 3 nothing 'sheet: standard output: Input/output error' "failing_sheet write <$netlist"
+done
+head -c 7 "$expected" >seven
+expect 3 seven 'sheet: standard output: Input/output error' 'failing_sheet short_write <selector.netlist'
+
+echo "sheet: $trials trials, $failures failed"
+[ "$failures" -eq 0 ]
