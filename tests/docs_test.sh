@@ -98,6 +98,9 @@ same "the selector's netlist in docs/RULES.md" said page
 section 'The selector' | gates >page
 listed "$(cat table)" >said
 same "the selector's gates in docs/RULES.md" said page
+section 'The selector' | sed '1,/^Its sheet/d' | sed -n 's/^    //p' >page
+"$bench" list "hex:$(cat table)" >said
+same "the selector's sheet in docs/RULES.md" said page
 section 'A second board' | sed '/matrices/,$d' | bytes >table
 section 'A second board' | gates >page
 listed "$(cat table)" >said

@@ -13,6 +13,11 @@ module _ {A : Type 0} where
   sets-more l i j [] ys e = rw (e, add-zero i)
   sets-more l i j (x ∷ xs) ys e = sets-more (set l i x) (suc i) j xs ys (omega arith)
 
+  -- A run of elements written behind another.
+  pub onward : (l : List A) (i : ℕ) {j : ℕ} (xs ys : List A) {m n : List A} → m ≡ sets l i xs → n ≡ sets m j ys → j ≡ i + length xs →
+      n ≡ sets l i (xs ++ ys)
+  onward l i {j} xs ys d e h = e ∙ ap (λ (m : List A). sets m j ys) d ∙ sets-more l i j xs ys h
+
   -- A list vs copied element by element: one more, after i of them.
   pub copied-more : (l : List A) {m : List A} (at i : ℕ) (vs : List A) (d : A) → i < length vs → m ≡ sets l at (take i vs) →
       set m (at + i) (getD vs i d) ≡ sets l at (take (i + 1) vs)

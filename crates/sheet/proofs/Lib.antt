@@ -1,4 +1,5 @@
 pub mod Columns
+pub mod Rows
 pub mod Pages
 pub mod Outcomes
 pub mod Readback

@@ -1,10 +1,9 @@
--- Rows written one after another: how long they are, and what one more adds.
+-- Rows one after another, under headings: where they end, what one more adds, and the whole sheet.
 use borrow.Author.Tests.{ltb-true, ltb-false, eqb-true, eqb-false, lt-ltb, le-ltb, eq-eqb, ne-eqb}
 use native.Mathlib.Nat.{add-zero, zero-add}
-use native.Mathlib.Numerals.{add-one}
 use native.Mathlib.Omega.{arith}
-use Prim.Native.Nat.{ℕ, zero, suc, _+_, _*_, _/_, _%_, _≤_}
-use mathlib.Core.Path.{_≡_, refl, sym, ap, ap₂, _∙_}
+use Prim.Native.Nat.{ℕ, suc, _+_, _*_, _/_, _%_, _≤_}
+use mathlib.Core.Path.{_≡_, refl, sym, ap, _∙_}
 use mathlib.Core.Bool.{Bool, true, false, _&&_, cond}
 use mathlib.Core.List.{List, [], _∷_, _++_, append-assoc, append-nil}
 use lib.Dec.{ltb, eqb}
@@ -13,60 +12,15 @@ use lib.Seq.{sets}
 use Rattle.fields.specs.Bounded.{listed}
 use Rattle.fields.proofs.Listed.{length-listed, listed-more}
 use Rattle.files.specs.Room.{over}
-use Rattle.files.proofs.Written.{sets-more}
+use Rattle.files.proofs.Written.{onward}
 use Rattle.files.proofs.Buffers.{sets-over}
 use Rattle.netlist.specs.declared.Gate.{Gate}
 use Rattle.netlist.specs.Netlist.{Netlist, gateLine}
 use Rattle.sheet.specs.declared.row.Kind.{Kind}
-use Rattle.sheet.specs.declared.row.Kind.the-variants.{And, Or, Out}
 use Rattle.sheet.specs.declared.row.Row.{Row}
-use Rattle.sheet.specs.Sheet.{inFive, rowText, heading, headingAfter, kindOf, gateRow, outputRow, numberedRows, rowsOf, rowsFrom, sheetOf}
-use Rattle.sheet.specs.Inner.Places.{endOf, placeOf, kindColumn}
-use Rattle.sheet.proofs.Columns.{signs, in-five}
-
--- A row by its columns, each with the sign behind it.
-abbrev pub columns : ℕ → Kind → ℕ → ℕ → List ℕ
-columns n k a b = (signs n ++ (32 ∷ [])) ++ kindColumn k ++ (signs a ++ (32 ∷ [])) ++ (signs b ++ (10 ∷ []))
-
-pub columns-are : (n : ℕ) (k : Kind) (a b : ℕ) → rowText (record { number = n; kind = k; first = a; second = b }) ≡ columns n k a b
-unfolding rowText
-columns-are n And a b = rw (in-five n, in-five a, in-five b)
-columns-are n Or a b = rw (in-five n, in-five a, in-five b)
-columns-are n Out a b = rw (in-five n, in-five a, in-five b)
-
-length-columns : (n : ℕ) (k : Kind) (a b : ℕ) → length (columns n k a b) ≡ 22
-length-columns n And a b = refl
-length-columns n Or a b = refl
-length-columns n Out a b = refl
-
-pub length-row : (r : Row) → length (rowText r) ≡ 22
-length-row r = let k = r .kind in ap length (columns-are (r .number) k (r .first) (r .second)) ∙ length-columns (r .number) k (r .first) (r .second)
-
--- A run of bytes behind another.
-onward : (l : List ℕ) (i : ℕ) {j : ℕ} (xs ys : List ℕ) {m n : List ℕ} → m ≡ sets l i xs → n ≡ sets m j ys → j ≡ i + length xs → n ≡ sets l i (xs ++ ys)
-onward l i {j} xs ys d e h = e ∙ ap (λ (m : List ℕ). sets m j ys) d ∙ sets-more l i j xs ys h
-
-length-kind : (k : Kind) → length (kindColumn k) ≡ 4
-length-kind And = refl
-length-kind Or = refl
-length-kind Out = refl
-
-pub row-written : (l : List ℕ) (i n : ℕ) (k : Kind) (a b : ℕ) {t u v w : List ℕ} → t ≡ sets l i (inFive n ++ (32 ∷ [])) →
-    u ≡ sets t (i + 6) (kindColumn k) → v ≡ sets u (i + 10) (inFive a ++ (32 ∷ [])) → w ≡ sets v (i + 16) (inFive b ++ (10 ∷ [])) →
-    w ≡ sets l i (rowText (record { number = n; kind = k; first = a; second = b }))
-row-written l i n k a b d e f g =
-    go (kindColumn k) (length-kind k) (rw (in-five n) at d) e (rw (in-five a) at f) (rw (in-five b) at g)
-    ∙ ap (sets l i) (sym (columns-are n k a b))
-  where
-    go : (c : List ℕ) {t u v w : List ℕ} → length c ≡ 4 → t ≡ sets l i (signs n ++ (32 ∷ [])) → u ≡ sets t (i + 6) c →
-        v ≡ sets u (i + 10) (signs a ++ (32 ∷ [])) → w ≡ sets v (i + 16) (signs b ++ (10 ∷ [])) →
-        w ≡ sets l i ((signs n ++ (32 ∷ [])) ++ c ++ (signs a ++ (32 ∷ [])) ++ (signs b ++ (10 ∷ [])))
-    go c h d e f g =
-        let number : List ℕ = signs n ++ (32 ∷ []) in
-        let first : List ℕ = signs a ++ (32 ∷ []) in
-        let two = onward l i number c d e (omega arith) in
-        let three = onward l i (number ++ c) first two f (omega arith) in
-        onward l i (number ++ c ++ first) (signs b ++ (10 ∷ [])) three g (omega (arith, length-append c first))
+use Rattle.sheet.specs.Sheet.{rowText, heading, headingAfter, kindOf, gateRow, outputRow, numberedRows, rowsOf, rowsFrom, sheetOf}
+use Rattle.sheet.specs.Inner.Places.{endOf, placeOf}
+use Rattle.sheet.proofs.Rows.{length-row}
 
 -- Where no heading stands, and where one does.
 pub first-row : (k : ℕ) → k ≡ 0 → headingAfter k ≡ []
@@ -147,12 +101,14 @@ module _ {A : Type 0} (row : ℕ → A → Row) where
         let rows : rowsTo (j + 1) ≡ rowsTo j ++ (r ∷ []) =
         ap (numberedRows row k) (listed-more at j) ∙ numbered-more k (listed at j 0) (at j)
         ∙ ap (λ (s : Row). rowsTo j ++ (s ∷ [])) (ap (λ (m : ℕ). row (k + m) (at j)) (length-listed at j 0) ∙ sym o) in
-        a ∙ ap (λ (t : List ℕ). sets t (endOf i) (headingAfter i ++ rowText r)) n
-        ∙ sets-more text (endOf before) (endOf i) (rowsFrom before (rowsTo j)) _
-        (ap endOf (e ∙ ap (_+_ before) (sym l)) ∙ sym (rows-end before (rowsTo j)))
-        ∙ ap (sets text (endOf before)) (sym (ap (rowsFrom before) rows ∙ rows-append before (rowsTo j) (r ∷ [])
+        let end : endOf i ≡ endOf before + length (rowsFrom before (rowsTo j)) =
+        ap endOf (e ∙ ap (_+_ before) (sym l)) ∙ sym (rows-end before (rowsTo j)) in
+        let more : rowsFrom before (rowsTo (j + 1)) ≡ rowsFrom before (rowsTo j) ++ (headingAfter i ++ rowText r) =
+        ap (rowsFrom before) rows ∙ rows-append before (rowsTo j) (r ∷ [])
         ∙ ap (λ (m : ℕ). rowsFrom before (rowsTo j) ++ rowsFrom m (r ∷ [])) (ap (_+_ before) l ∙ sym e)
-        ∙ ap (_++_ (rowsFrom before (rowsTo j))) (append-nil (headingAfter i ++ rowText r))))
+        ∙ ap (_++_ (rowsFrom before (rowsTo j))) (append-nil (headingAfter i ++ rowText r)) in
+        onward text (endOf before) (rowsFrom before (rowsTo j)) (headingAfter i ++ rowText r) n a end
+        ∙ ap (sets text (endOf before)) (sym more)
 
 pub gate-row-is : (line : ℕ) {k : Kind} {m n : Gate} → k ≡ kindOf (m .kind) → m ≡ n →
     record { number = line; kind = k; first = m .left; second = m .right } ≡ gateRow line n

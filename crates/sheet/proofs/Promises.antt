@@ -1,21 +1,20 @@
 -- The sheet determines the netlist once the count of contacts is given, and its length.
 use borrow.Author.Tests.{eqb-true, eqb-false}
 use native.Mathlib.Omega.{arith}
-use Prim.Native.Nat.{ℕ, suc, _+_, _*_, _/_, _≤_, _<_}
+use Prim.Native.Nat.{ℕ, suc, _+_, _≤_}
 use mathlib.Core.Path.{_≡_, refl, sym, ap, ap₂, _∙_}
 use mathlib.Core.Bool.{Bool, true, false, cond}
 use mathlib.Core.List.{List, [], _∷_, _++_, append-nil}
 use lib.Dec.{eqb}
-use lib.ListN.{length, getD, drop}
+use lib.ListN.{length, drop}
 use lib.Seq.{drop-append-seam}
-use Rattle.fields.specs.Fields.{Bytes}
 use Rattle.netlist.specs.declared.Gate.{Gate}
 use Rattle.netlist.specs.declared.Pair.{Pair}
 use Rattle.netlist.specs.Netlist.{Netlist, gateLine, fileOf}
 use Rattle.netlist.specs.Questions.{netlistIn, netlistRefusal}
 use Rattle.netlist.proofs.Files.{no-gate, no-pair}
 use Rattle.netlist.proofs.Tests.{Bounds, Wired, PairsWired}
-use Rattle.netlist.proofs.Accepted.{AcceptedNetlist, accepted}
+use Rattle.netlist.proofs.Accepted.{accepted}
 use Rattle.netlist.proofs.Promises.{netlist-writes-back}
 use Rattle.sheet.specs.declared.row.Kind.{Kind}
 use Rattle.sheet.specs.declared.row.Kind.the-variants.{And, Or, Out}

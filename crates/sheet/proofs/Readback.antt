@@ -14,7 +14,7 @@ use Rattle.sheet.specs.declared.row.Kind.the-variants.{And, Or, Out}
 use Rattle.sheet.specs.declared.row.Row.{Row}
 use Rattle.sheet.specs.Sheet.{rowText, headingAfter, numberedRows, rowsFrom}
 use Rattle.sheet.specs.Inner.Places.{signAt}
-use Rattle.sheet.proofs.Pages.{columns, columns-are, length-row}
+use Rattle.sheet.proofs.Rows.{columns, columns-are, length-row}
 
 -- A blank counts as 0, like the digit 0.
 sign-value : (p x : ℕ) → (x < p → x / p % 10 ≡ 0) → signAt p x % 16 ≡ x / p % 10

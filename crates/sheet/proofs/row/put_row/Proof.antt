@@ -1,6 +1,6 @@
 -- `row::put_row` meets its contract: its four parts stand one after another.
 use borrow.Author.Needs.{needs}
-use Rattle.sheet.proofs.Pages.{row-written}
+use Rattle.sheet.proofs.Rows.{row-written}
 use Rattle.sheet.proofs.row.put_row.Statement.{statement}
 use Rattle.sheet.proofs.row.put_row.Tie as tie
 
