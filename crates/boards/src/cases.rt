@@ -9,12 +9,15 @@
 //     r NAME: NETLIST / ROOM / FROM / HOLDS / RAILS / PAIRS     a run with two buffers, the first shown from a place on
 //     g NAME: COUNT / ROOM / FROM / HOLDS / RAILS / PAIRS       the same, of a row of so many gates
 //     p NAME: TABLE / ROOM / FROM / HOLD                        a probe with a buffer that is shown from a place on
+//     s NAME: NETLIST / ROOM                                    a sheet in a buffer of so many bytes, or what is kept of it
+//     n NAME: COUNT / ROOM / FROM / TO                          the same, of a row of so many gates, from a line to before another
 use crate::probes;
 use listings::netlists;
 use text::print;
 use text::spelling;
 use views::rows;
 use views::runs;
+use views::sheets;
 use views::tables;
 
 pub fn show_all(text: &[u8]) {
@@ -62,6 +65,8 @@ fn show(kind: u8, case: &[u8]) {
         b'r' => runs::show(file, case),
         b'g' => runs::show_row(case),
         b'p' => probes::show(file, case),
+        b's' => sheets::show(file, case),
+        b'n' => sheets::show_row(case),
         _ => print::text(b": of no kind"),
     }
 }

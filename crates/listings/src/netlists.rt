@@ -94,12 +94,9 @@ pub fn show_kept(table: &[u8], case: &[u8]) {
 }
 
 // How many of the first bytes have the value that they were lent with.
-fn kept(file: &Lent, len: usize) -> usize {
-    let mut count = 0;
-    for i in 0..len {
-        if file[i % 10568] == b'.' {
-            count += 1;
-        }
-    }
-    count
+fn kept(file: &Lent, len: usize) -> usize
+    requires { ⌜ len ≤ 10568 ⌝ }
+{
+    let all = &file[..];
+    print::kept(&all[0..len])
 }

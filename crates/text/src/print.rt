@@ -60,3 +60,14 @@ fn sign(b: u8) {
         io::print_decimal(STDOUT_FILENO, b as u64);
     }
 }
+
+// How many lent bytes keep the value that they were lent with.
+pub fn kept(lent: &[u8]) -> usize {
+    let mut count = 0;
+    for i in 0..lent.len() {
+        if lent[i] == b'.' {
+            count += 1;
+        }
+    }
+    count
+}

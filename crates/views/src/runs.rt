@@ -2,6 +2,8 @@
 // second, every output's pair.
 use text::print;
 use text::spelling;
+ghost use Prim.Native.Nat.{_≤_};
+ghost use lib.ListN.{length};
 
 // A run of a netlist with what else the case says.
 pub fn show(netlist: &[u8], case: &[u8]) {
@@ -22,18 +24,26 @@ pub fn show(netlist: &[u8], case: &[u8]) {
     print::signs(b", pairs ", &pairs, 0, pairs_len);
 }
 
-// A run of a netlist with one contact, so many gates of five bytes 0, ANDs of the constant 0, and one output, the last line and
-// the false rail.
+// A run of a row of gates.
 pub fn show_row(case: &[u8]) {
+    let mut file = [0u8; 52819];
+    let len = put_row(case, &mut file);
+    show(&file[0..len], case);
+}
+
+// Writes a netlist with one contact, so many gates of five bytes 0, ANDs of the constant 0, and one output, the last line and the
+// false rail, over bytes 0; returns its length. The case's first part says how many gates.
+pub fn put_row(case: &[u8], file: &mut [u8; 52819]) -> usize
+    ensures { λ r. ⌜ r ≤ length (now (file .exit)) ⌝ }
+{
     let count = spelling::number(case, 0, 10562);
     let last = 3 + count;
     let gate_bytes = 5 * count;
-    let mut file = [0u8; 52819];
     file[4] = 4;
     file[5] = (gate_bytes / 256) as u8;
     file[6] = (gate_bytes % 256) as u8;
-    files::put_field(&mut file, 0, 1, b"\x01");
+    files::put_field(file, 0, 1, b"\x01");
     let pair = [(last / 256) as u8, (last % 256) as u8, 0, 3];
-    files::put_field(&mut file, 7 + gate_bytes, 5, &pair);
-    show(&file[0..14 + gate_bytes], case);
+    files::put_field(file, 7 + gate_bytes, 5, &pair);
+    14 + gate_bytes
 }

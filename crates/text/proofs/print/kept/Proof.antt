@@ -1,21 +1,24 @@
--- `netlists::kept` meets its contract. The loop's invariant: at most each byte passed was counted. The measure is how many bytes are left.
+-- `print::kept` meets its contract. The loop's invariant: its end is the buffer's length, and at most each byte passed was counted. The
+-- measure is how many bytes are left.
 use Prim.Native.Nat.{_-_, _≤_}
 use mathlib.Core.Logic.{⊎-elim}
+use mathlib.Core.Path.{_≡_}
 use borrow.Author.Needs.{needs}
-use Rattle.listings.proofs.netlists.kept.Statement.{statement}
-use Rattle.listings.proofs.netlists.kept.Tie as tie
+use lib.ListN.{length}
+use Rattle.text.proofs.print.kept.Statement.{statement}
+use Rattle.text.proofs.print.kept.Tie as tie
 
 abbrev Inv-loop : tie.InvT-loop
-Inv-loop file len count₀ i₀ count i = count ≤ i
+Inv-loop lent count₀ i₀ i-end count i = (i-end ≡ length lent) × (count ≤ i)
 
 abbrev μ-loop : tie.MeasureT-loop
-μ-loop file len count₀ i₀ count i = len - i
+μ-loop lent count₀ i₀ i-end count i = i-end - i
 
 loop-holds : tie.Need-loop-holds Inv-loop μ-loop
 loop-holds c = search needs
 
-element-copy-out-if1 : tie.Need-element-copy-out-if1 Inv-loop μ-loop
-element-copy-out-if1 c = search needs
+shared-slice-read-if1 : tie.Need-shared-slice-read-if1 Inv-loop μ-loop
+shared-slice-read-if1 c = search needs
 
 add-count : tie.Need-add-count Inv-loop μ-loop
 add-count c = search needs
@@ -39,7 +42,7 @@ kept-spec =
     Inv-loop
     μ-loop
     loop-holds
-    element-copy-out-if1
+    shared-slice-read-if1
     add-count
     add-i
     loop-less
