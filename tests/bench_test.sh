@@ -6,21 +6,16 @@
 #
 # RESULTS, build/bench_test if it is left out, is emptied and gets the transcripts of this run and the files that it makes. With the
 # variable STOP set the first transcript that differs ends the test.
-set -u
-LC_ALL=C
-export LC_ALL
+. "$(dirname "$0")/start.sh"
 
 if [ $# -lt 1 ]; then
     echo "usage: tests/bench_test.sh BENCH [RESULTS]" >&2
     exit 2
 fi
-root=$(cd "$(dirname "$0")/.." && pwd) || exit 2
 bench=$(realpath "$1") || exit 2
-results=${2:-$root/build/bench_test}
-rm -rf "$results" && mkdir -p "$results" && cp "$root"/examples/* "$results" && cd "$results" || exit 2
+enter "${2:-$root/build/bench_test}" && cp "$root"/examples/* . || exit 2
 
 commands=0
-failures=0
 
 # transcript NAME: what follows goes to this transcript.
 transcript() {

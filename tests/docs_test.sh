@@ -5,25 +5,18 @@
 #     tests/docs_test.sh BENCH QUESTIONS [RESULTS]
 #
 # QUESTIONS prints the header's questions (tests/questions.c). RESULTS, build/docs_test if it is left out, is emptied.
-set -u
+. "$(dirname "$0")/start.sh"
 
 if [ $# -lt 2 ]; then
     echo "usage: tests/docs_test.sh BENCH QUESTIONS [RESULTS]" >&2
     exit 2
 fi
-root=$(cd "$(dirname "$0")/.." && pwd) || exit 2
 bench=$(realpath "$1") && questions=$(realpath "$2") || exit 2
-results=${3:-$root/build/docs_test}
-rm -rf "$results" && mkdir -p "$results" && cd "$results" || exit 2
-
-failures=0
+enter "${3:-$root/build/docs_test}"
 
 # same WHAT FILE FILE
 same() {
-    if ! diff -u "$2" "$3"; then
-        echo "FAILED: $1"
-        failures=$((failures + 1))
-    fi
+    diff -u "$2" "$3" || complain "$1"
 }
 
 "$questions" >header || failures=$((failures + 1))
@@ -69,10 +62,7 @@ same "README's example of list" said listing
 
 "$bench" --help | sed -n 's/^  \([a-z][a-z-]*\) .*/\1/p' >commands
 while read -r command; do
-    grep -q "^| \`$command " "$root/README.md" || {
-        echo "FAILED: README has no row for $command"
-        failures=$((failures + 1))
-    }
+    grep -q "^| \`$command " "$root/README.md" || complain "README has no row for $command"
 done <commands
 [ "$(wc -l <commands)" -ge 9 ] || failures=$((failures + 1))
 

@@ -5,24 +5,16 @@
 #     tests/exports_test.sh BENCH READBACK NETLISTS [RESULTS]
 #
 # RESULTS, build/exports if it is left out, is emptied and gets the exports.
-set -u
+. "$(dirname "$0")/start.sh"
 
 if [ $# -lt 3 ]; then
     echo "usage: tests/exports_test.sh BENCH READBACK NETLISTS [RESULTS]" >&2
     exit 2
 fi
-root=$(cd "$(dirname "$0")/.." && pwd) || exit 2
 bench=$(realpath "$1") && readback=$(realpath "$2") && netlists=$(realpath "$3") || exit 2
-results=${4:-$root/build/exports}
-rm -rf "$results" && mkdir -p "$results" && cd "$results" || exit 2
+enter "${4:-$root/build/exports}"
 
 exports=0
-failures=0
-
-complain() {
-    echo "FAILED: $*"
-    failures=$((failures + 1))
-}
 
 # read_elsewhere NAME: the board's exports in other tools, which take too long for the largest.
 read_elsewhere() {

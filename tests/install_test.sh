@@ -2,25 +2,19 @@
 # Looks at an installation: compiles the C example against it, runs it and the bench program.
 #
 #     tests/install_test.sh DESTDIR PREFIX RESULTS CC
-set -u
+. "$(dirname "$0")/start.sh"
 
 if [ $# -ne 4 ]; then
     echo "usage: tests/install_test.sh DESTDIR PREFIX RESULTS CC" >&2
     exit 2
 fi
-root=$(cd "$(dirname "$0")/.." && pwd) || exit 2
 destination=$1 prefix=$2 cc=$4
-mkdir -p "$3" && cd "$3" || exit 2
-
-failures=0
+enter "$3"
 
 # run_example COMMAND...: compiles it, and compares what it says.
 run_example() {
     rm -f example
-    "$@" -o example && ./example | diff "$root/tests/expected/example.txt" - || {
-        echo "FAILED: $*"
-        failures=$((failures + 1))
-    }
+    "$@" -o example && ./example | diff "$root/tests/expected/example.txt" - || complain "$*"
 }
 
 here=$destination$prefix

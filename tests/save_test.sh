@@ -5,26 +5,16 @@
 #
 # FAILING is the bench with calls of the system that fail by wish: the one that the variable FAIL names (tests/failing.c).
 # RESULTS, build/save_test if it is left out, is emptied and gets the files that the bench writes.
-set -u
-LC_ALL=C
-export LC_ALL
+. "$(dirname "$0")/start.sh"
 
 if [ $# -lt 2 ]; then
     echo "usage: tests/save_test.sh BENCH FAILING [RESULTS]" >&2
     exit 2
 fi
-root=$(cd "$(dirname "$0")/.." && pwd) || exit 2
 bench=$(realpath "$1") && failing=$(realpath "$2") || exit 2
-results=${3:-$root/build/save_test}
-rm -rf "$results" && mkdir -p "$results" && cp "$root"/examples/* "$results" && cd "$results" || exit 2
+enter "${3:-$root/build/save_test}" && cp "$root"/examples/* . || exit 2
 
 trials=0
-failures=0
-
-complain() {
-    echo "FAILED: $*"
-    failures=$((failures + 1))
-}
 
 # expect STATUS MESSAGE COMMAND...: the command ends with this status, says this alone, on standard error, and leaves no temporary
 # file behind.

@@ -5,26 +5,16 @@
 #
 # FAILING is the program with calls of the system that fail by wish (tests/failing.c). NETLISTS writes a netlist of a given size
 # (tests/netlists.c). RESULTS, build/sheet_test if it is left out, is emptied and gets the netlists and sheets.
-set -u
-LC_ALL=C
-export LC_ALL
+. "$(dirname "$0")/start.sh"
 
 if [ $# -lt 3 ]; then
     echo "usage: tests/sheet_test.sh SHEET FAILING NETLISTS [RESULTS]" >&2
     exit 2
 fi
-root=$(cd "$(dirname "$0")/.." && pwd) || exit 2
 program=$(realpath "$1") && failing=$(realpath "$2") && netlists=$(realpath "$3") || exit 2
-results=${4:-$root/build/sheet_test}
-rm -rf "$results" && mkdir -p "$results" && cp "$root"/examples/selector.* "$results" && cd "$results" || exit 2
+enter "${4:-$root/build/sheet_test}" && cp "$root"/examples/selector.* . || exit 2
 
 trials=0
-failures=0
-
-complain() {
-    echo "FAILED: $*"
-    failures=$((failures + 1))
-}
 
 # expect STATUS FILE MESSAGE COMMAND LINE: this line of the shell, in which sheet is the program, ends with this status, prints what
 # the file holds, and says this on standard error.
