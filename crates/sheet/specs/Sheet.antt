@@ -19,11 +19,11 @@ ascii end = []
 ascii (c then text) = code c ∷ ascii text
 
 -- A text in so many characters: standing right, with blanks before it, or left, with blanks behind it.
-abbrev pub right : ℕ → List ℕ → List ℕ
-right width text = replicate (width - length text) (code " ") ++ text
+abbrev pub standingRight : ℕ → List ℕ → List ℕ
+standingRight width text = replicate (width - length text) (code " ") ++ text
 
-abbrev pub left : ℕ → List ℕ → List ℕ
-left width text = text ++ replicate (width - length text) (code " ")
+abbrev pub standingLeft : ℕ → List ℕ → List ℕ
+standingLeft width text = text ++ replicate (width - length text) (code " ")
 
 -- A number's decimal digits, the last so many of them.
 unfoldable pub decimal : ℕ → ℕ → List ℕ
@@ -31,7 +31,7 @@ decimal zero x = []
 decimal (suc digits) x = cond (ltb x 10) [] (decimal digits (x / 10)) ++ ((code "0" + x % 10) ∷ [])
 
 unfoldable pub inFive : ℕ → List ℕ
-inFive x = right 5 (decimal 5 x)
+inFive x = standingRight 5 (decimal 5 x)
 
 abbrev pub kindText : Kind → List ℕ
 kindText And = ascii "AND"
@@ -41,7 +41,7 @@ kindText Out = ascii "OUT"
 -- A row: number in 5, blank, kind in 3, blank, first source in 5, blank, second in 5, and a line feed.
 unfoldable pub rowText : Row → List ℕ
 rowText r =
-    inFive (r .number) ++ ascii " " ++ left 3 (kindText (r .kind)) ++ ascii " "
+    inFive (r .number) ++ ascii " " ++ standingLeft 3 (kindText (r .kind)) ++ ascii " "
     ++ inFive (r .first) ++ ascii " " ++ inFive (r .second) ++ ascii "\n"
 
 abbrev pub heading : List ℕ
@@ -65,7 +65,7 @@ numberedRows row k (x ∷ xs) = row k x ∷ numberedRows row (suc k) xs
 abbrev pub rowsOf : Netlist → List Row
 rowsOf net = numberedRows gateRow (gateLine (net .contacts)) (net .gates) ++ numberedRows outputRow 0 (net .pairs)
 
--- The heading above the row that k rows stand before, if there is one: it stands above every further fiftieth row.
+-- The heading above the row that k rows stand before, if there is one: above row 51, row 101 and so on.
 abbrev pub headingAfter : ℕ → List ℕ
 headingAfter k = cond (ltb 0 k && eqb (k % 50) 0) heading []
 
@@ -74,6 +74,6 @@ unfoldable pub rowsFrom : ℕ → List Row → List ℕ
 rowsFrom k [] = []
 rowsFrom k (r ∷ rs) = headingAfter k ++ rowText r ++ rowsFrom (suc k) rs
 
--- The heading precedes row 1, row 51, row 101 and so on: the first stands even where no row follows.
+-- The heading precedes row 1, row 51, row 101 and so on. The first stands there even if no row follows.
 unfoldable pub sheetOf : Netlist → List ℕ
 sheetOf net = heading ++ rowsFrom 0 (rowsOf net)

@@ -3,6 +3,4 @@ mod page;
 mod row;
 mod service;
 
-pub use row::Kind;
-pub use row::Row;
 pub use service::sheet;

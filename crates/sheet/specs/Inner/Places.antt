@@ -5,7 +5,7 @@ use mathlib.Core.Bool.{cond}
 use mathlib.Core.List.{List, _++_}
 use lib.Dec.{ltb}
 use Rattle.sheet.specs.declared.row.Kind.{Kind}
-use Rattle.sheet.specs.Sheet.{ascii, left, kindText}
+use Rattle.sheet.specs.Sheet.{ascii, standingLeft, kindText}
 
 -- Where a sheet of k rows ends, and where the next row stands, below its heading if there is one.
 abbrev pub endOf : ℕ → ℕ
@@ -20,4 +20,4 @@ signAt power x = cond (ltb x power) (code " ") (code "0" + x / power % 10)
 
 -- A kind and the blank behind it.
 abbrev pub kindColumn : Kind → List ℕ
-kindColumn kind = left 3 (kindText kind) ++ ascii " "
+kindColumn kind = standingLeft 3 (kindText kind) ++ ascii " "
