@@ -37,7 +37,7 @@ pub page-starts : (k : ℕ) → (k ≡ 0 → ⊥) → k % 50 ≡ 0 → (headingA
 page-starts k h e = (simp (lt-ltb 0 k (omega arith), eq-eqb (k % 50) 0 e), omega arith)
 
 -- The heading above a row brings the end of the rows before it to the row's place.
-pub heading-end : (k : ℕ) → endOf k + length (headingAfter k) ≡ placeOf k
+heading-end : (k : ℕ) → endOf k + length (headingAfter k) ≡ placeOf k
 heading-end k = go (ltb 0 k) (eqb (k % 50) 0) refl refl
   where
     go : (a b : Bool) → ltb 0 k ≡ a → eqb (k % 50) 0 ≡ b → endOf k + length (cond (a && b) heading []) ≡ placeOf k
@@ -51,7 +51,7 @@ row-end k r =
     let l = length-row r in
     simp length-append (omega arith)
 
-pub rows-end : (k : ℕ) (rs : List Row) → endOf k + length (rowsFrom k rs) ≡ endOf (k + length rs)
+rows-end : (k : ℕ) (rs : List Row) → endOf k + length (rowsFrom k rs) ≡ endOf (k + length rs)
 unfolding rowsFrom
 rows-end k [] = simp add-zero
 rows-end k (r ∷ rs) =
@@ -70,7 +70,7 @@ rows-append k (r ∷ rs) ss =
     ∙ sym (append-assoc (headingAfter k ++ rowText r) (rowsFrom (suc k) rs) (rowsFrom (k + suc (length rs)) ss))
 
 module _ {A : Type 0} (row : ℕ → A → Row) where
-  pub length-numbered : (k : ℕ) (xs : List A) → length (numberedRows row k xs) ≡ length xs
+  length-numbered : (k : ℕ) (xs : List A) → length (numberedRows row k xs) ≡ length xs
   unfolding numberedRows
   length-numbered k [] = refl
   length-numbered k (x ∷ xs) = ap suc (length-numbered (suc k) xs)

@@ -112,7 +112,7 @@ small-rows net b w p =
     record { number = omega arith; first = omega (arith, in! .on); second = omega (arith, in! .off) }))
 
 -- The sheet determines the netlist.
-pub sheet-netlist : (a b : List ℕ) → netlistRefusal a ≡ 0 → netlistRefusal b ≡ 0 →
+sheet-netlist : (a b : List ℕ) → netlistRefusal a ≡ 0 → netlistRefusal b ≡ 0 →
     netlistIn a .contacts ≡ netlistIn b .contacts → sheetOf (netlistIn a) ≡ sheetOf (netlistIn b) → netlistIn a ≡ netlistIn b
 unfolding sheetOf
 sheet-netlist a b p q n e =
