@@ -103,14 +103,14 @@ static void add_board_run(unsigned percent, const char *held)
     add_row(label("run, board of %u gates, %s held", job.gates, held), do_run, 1);
 }
 
-/* Four netlists in turn: the processor remembers how the branches went in the gates of one, and not of all. */
-static void add_random_runs(unsigned percent, const char *held)
+/* Four netlists in turn: a processor may remember how the branches went in the gates of one, and not of all. */
+static void add_random_netlists(const char *name, work *work, unsigned percent)
 {
     for (unsigned k = 0; k < 4; k++) {
         use_random_netlist(MOST_GATES);
         hold_lines(percent);
         if (k == 0)
-            add_row(label("run, 10,560 gates, 4 netlists, %s held", held), do_run, 1);
+            add_row(name, work, 1);
         else
             add_job();
     }
@@ -126,9 +126,9 @@ static void add_runs(void)
     add_board_run(0, "no line");
     add_board_run(50, "half of the lines");
     add_board_run(100, "all lines");
-    add_random_runs(0, "no line");
-    add_random_runs(50, "half of the lines");
-    add_random_runs(100, "all lines");
+    add_random_netlists("run, 10,560 gates, 4 netlists, no line held", do_run, 0);
+    add_random_netlists("run, 10,560 gates, 4 netlists, half of the lines held", do_run, 50);
+    add_random_netlists("run, 10,560 gates, 4 netlists, all lines held", do_run, 100);
 }
 
 /* The line that shows latest of all. */
@@ -170,12 +170,7 @@ static void add_sheets(void)
     add_row("sheet, 660 gates", do_sheet, 1);
     use_largest_board(12);
     add_row(label("sheet, board of %u gates", job.gates), do_sheet, 1);
-    use_random_netlist(MOST_GATES);
-    add_row("sheet, 10,560 gates, 4 netlists", do_sheet, 1);
-    for (unsigned k = 1; k < 4; k++) {
-        use_random_netlist(MOST_GATES);
-        add_job();
-    }
+    add_random_netlists("sheet, 10,560 gates, 4 netlists", do_sheet, 0);
 }
 
 int main(void)

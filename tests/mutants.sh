@@ -61,38 +61,38 @@ edited() {
     fi
 }
 
-# wrong FILE WHAT EDIT: the bench with one file edited.
-wrong() {
-    local file=$1 what=$2 objects=()
-    edited "$@" || return
-    for object in build/program/*.o; do
-        [ "$object" = "build/program/$file.o" ] || objects+=("$object")
-    done
-    if ! "${compile[@]}" -w -c "$folder/bench/$file.c" -o "$folder/wrong.o" 2>"$folder/log" ||
-        ! "${compile[@]}" "$folder/wrong.o" "${objects[@]}" "$library" -o "$folder/pilgodur" 2>>"$folder/log" ||
-        ! "${compile[@]}" "${failing[@]}" "$folder/wrong.o" "${objects[@]}" tests/failing.c "$library" -o "$folder/failing" 2>>"$folder/log"; then
-        echo "NOT COMPILED: $what ($file.c)"
+# linked PROGRAM PARTS...: the program, and failing, from these parts.
+linked() {
+    "${compile[@]}" -w "${@:2}" "$library" -o "$folder/$1" &&
+        "${compile[@]}" -w "${failing[@]}" "${@:2}" tests/failing.c "$library" -o "$folder/failing"
+}
+
+# judge FILE WHAT TESTS PROGRAM PARTS...: the version does not survive if it can be made and fails the tests.
+judge() {
+    if ! linked "${@:4}" 2>"$folder/log"; then
+        echo "NOT COMPILED: $2 ($1.c)"
         cat "$folder/log"
         survivors=$((survivors + 1))
-    elif tested "$folder/pilgodur" "$folder/failing" >"$folder/log" 2>&1; then
-        echo "SURVIVED: $what ($file.c)"
+    elif "$3" "$folder/$4" "$folder/failing" >"$folder/log" 2>&1; then
+        echo "SURVIVED: $2 ($1.c)"
         survivors=$((survivors + 1))
     fi
 }
 
+# wrong FILE WHAT EDIT: the bench with one file edited.
+wrong() {
+    local objects=()
+    edited "$@" || return
+    for object in build/program/*.o; do
+        [ "$object" = "build/program/$1.o" ] || objects+=("$object")
+    done
+    judge "$1" "$2" tested pilgodur "$folder/bench/$1.c" "${objects[@]}"
+}
+
 # wrong_sheet WHAT EDIT: the program sheet edited.
 wrong_sheet() {
-    local shared=(build/program/save.o build/program/report.o)
     edited sheet "$@" || return
-    if ! "${compile[@]}" -w "$folder/bench/sheet.c" "${shared[@]}" "$library" -o "$folder/sheet" 2>"$folder/log" ||
-        ! "${compile[@]}" -w "${failing[@]}" "$folder/bench/sheet.c" "${shared[@]}" tests/failing.c "$library" -o "$folder/failing" 2>>"$folder/log"; then
-        echo "NOT COMPILED: $1 (sheet.c)"
-        cat "$folder/log"
-        survivors=$((survivors + 1))
-    elif tested_sheet "$folder/sheet" "$folder/failing" >"$folder/log" 2>&1; then
-        echo "SURVIVED: $1 (sheet.c)"
-        survivors=$((survivors + 1))
-    fi
+    judge sheet "$1" tested_sheet sheet "$folder/bench/sheet.c" build/program/save.o build/program/report.o
 }
 
 if ! tested "$root/build/pilgodur" "$root/build/pilgodur-failing" >"$folder/log" 2>&1 ||

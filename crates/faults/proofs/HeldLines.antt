@@ -1,5 +1,5 @@
 -- What a netlist's lines show in a run with lines held one way, and with one line held.
-use Prim.Native.Nat.{ℕ, zero, suc, _+_, _≤_, _<_}
+use Prim.Native.Nat.{ℕ, _≤_, _<_}
 use native.Mathlib.Omega.{arith}
 use mathlib.Core.Path.{_≡_, refl}
 use mathlib.Core.List.{List, [], _∷_}
@@ -9,7 +9,7 @@ use lib.ListN.{length}
 use Rattle.diagram.specs.Diagram.{Input}
 use Rattle.netlist.specs.declared.Hold.{Hold}
 use Rattle.netlist.specs.Netlist.{Netlist, lineCount, holdAt, holdsOf}
-use Rattle.fields.specs.Bounded.{listed}
+use Rattle.fields.proofs.Every.{every-listed, every-weaken}
 use Rattle.simulation.specs.Run.{held}
 use Rattle.netlist.proofs.Lists.{length-holds}
 use Rattle.netlist.proofs.Tests.{Wired}
@@ -18,20 +18,10 @@ use Rattle.rules.proofs.Models.{codeOf, OneSided, follows-weaken, follows-line}
 use Rattle.rules.proofs.Held.{shown, code-follows}
 
 -- Every hold of a hold list's bytes has a property that each place gives it.
-all-listed : (P : ℕ → Type 0) (f : ℕ → Hold) (count from : ℕ) → ((i : ℕ) → i < from + count → P (f i .value)) →
-    AllHeld P (listed f count from)
-unfolding listed
-all-listed P f zero from h = tt
-all-listed P f (suc count) from h = (h from (omega arith), all-listed P f count (suc from) (λ i l. h i (omega arith)))
-
 pub all-holds : (P : ℕ → Type 0) (holds : List ℕ) → ((i : ℕ) → i < length (holdsOf holds) → P (holdAt holds i .value)) →
     AllHeld P (holdsOf holds)
 unfolding holdsOf
-all-holds P holds h = all-listed P (holdAt holds) _ 0 (λ i l. h i (omega (arith, length-holds holds)))
-
-all-weaken : (P Q : ℕ → Type 0) → ((v : ℕ) → P v → Q v) → (hs : List Hold) → AllHeld P hs → AllHeld Q hs
-all-weaken P Q f [] a = tt
-all-weaken P Q f (h ∷ hs) a = (f _ (a .0), all-weaken P Q f hs (a .1))
+all-holds P holds h = every-listed (λ (k : Hold). P (k .value)) (holdAt holds) _ 0 (λ i l. h i (omega (arith, length-holds holds)))
 
 module _ (net : Netlist) (wired : Wired net) (x : Input) (b : ℕ) (bound : b ≤ 1) where
   -- Holds all at b.
@@ -40,7 +30,7 @@ module _ (net : Netlist) (wired : Wired net) (x : Input) (b : ℕ) (bound : b �
       follows-weaken
       (λ y made e.
       rw e (held-by (λ w. (w ≡ made) ⊎ (w ≡ b)) (λ w. w ≡ b) (λ w p. inr p) holds all y made (inl refl)))
-      (code-follows net wired x holds (all-weaken (λ v. v ≡ b) (λ v. v ≤ 1) (λ v e. omega arith) holds all))
+      (code-follows net wired x holds (every-weaken (λ (h : Hold). h .value ≡ b) (λ h. h .value ≤ 1) (λ h e. omega arith) holds all))
 
   -- One line held at b shows b.
   pub held-shows : (y : ℕ) → 2 ≤ y → y < lineCount net → shown net (codeOf net x) (record { line = y; value = b } ∷ []) y ≡ b

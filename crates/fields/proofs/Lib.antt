@@ -8,3 +8,4 @@ pub mod Refusals
 pub mod Places
 pub mod Small
 pub mod Parts
+pub mod Every

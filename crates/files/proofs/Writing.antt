@@ -12,6 +12,7 @@ abbrev writing : ℕ → ℕ → List ℕ → Writing
 writing k n after = record { refusal = k; length = n; buffer = after }
 
 module _ (written buffer : List ℕ) where
+  -- After the refusal of the questions before, it returns k and n and leaves this.
   abbrev pub Writes : ℕ → ℕ → ℕ → List ℕ → Type 0
   Writes before k n after = writing k n after ≡ writingOf before written buffer
 

@@ -50,7 +50,8 @@ pub record StuckLines : Type 0 where
   pub smallest : Smallest
   pub probeWrites : ProbeWrites
 
--- The gate sheet. It determines the netlist once the count of contacts is given, and fits its buffer's largest length.
+-- The gate sheet. It determines the netlist once the count of contacts is given; its length by its rows, and the length that is enough
+-- for each.
 pub record Sheets : Type 0 where
   pub determines : SheetDetermines
   pub length : SheetLength

@@ -8,6 +8,7 @@ use mathlib.Core.List.{List, [], _∷_, _++_, append-nil}
 use lib.Dec.{eqb}
 use lib.ListN.{length, drop}
 use lib.Seq.{drop-append-seam}
+use Rattle.fields.proofs.Every.{Every, every-by, every-append}
 use Rattle.netlist.specs.declared.Gate.{Gate}
 use Rattle.netlist.specs.declared.Pair.{Pair}
 use Rattle.netlist.specs.Netlist.{Netlist, gateLine, fileOf}
@@ -22,7 +23,7 @@ use Rattle.sheet.specs.declared.row.Row.{Row}
 use Rattle.sheet.specs.Sheet.{heading, kindOf, gateRow, outputRow, numberedRows, rowsOf, rowsFrom, sheetOf}
 use Rattle.sheet.specs.Promises.{SheetDetermines, SheetLength}
 use Rattle.sheet.proofs.Pages.{sheet-end}
-use Rattle.sheet.proofs.Readback.{SmallRow, Each, each-by, each-append, each-numbered, rows-same}
+use Rattle.sheet.proofs.Readback.{SmallRow, every-numbered, rows-same}
 
 -- Gates and outputs read back from rows: the kinds tell them apart, and ANDs from ORs.
 abbrev kindIn : Kind → ℕ
@@ -68,7 +69,7 @@ unfolding numberedRows
 outputs-in j [] = (refl, refl)
 outputs-in j (p ∷ ps) = let more = outputs-in (suc j) ps in (more .0, ap (_∷_ p) (more .1))
 
-gates-in : (line : ℕ) (gs : List Gate) (rs : List Row) → Each (λ (g : Gate). g .kind ≤ 1) gs →
+gates-in : (line : ℕ) (gs : List Gate) (rs : List Row) → Every (λ (g : Gate). g .kind ≤ 1) gs →
     (gatesIn (numberedRows gateRow line gs ++ rs) ≡ gs ++ gatesIn rs) × (pairsIn (numberedRows gateRow line gs ++ rs) ≡ pairsIn rs)
 unfolding numberedRows
 gates-in line [] rs e = (refl, refl)
@@ -87,23 +88,23 @@ netIn n rs = record { contacts = n; gates = gatesIn rs; pairs = pairsIn rs }
 net-back : (net : Netlist) → Wired net → netIn (net .contacts) (rowsOf net) ≡ net
 net-back net w =
     let outputs = outputs-in 0 (net .pairs) in
-    let kinds = each-by (λ (g : Gate). g .kind ≤ 1) (net .gates) no-gate (λ i h. w i no-gate h .kind) in
+    let kinds = every-by (λ (g : Gate). g .kind ≤ 1) (net .gates) no-gate (λ i h. w i no-gate h .kind) in
     let both = gates-in (gateLine (net .contacts)) (net .gates) (numberedRows outputRow 0 (net .pairs)) kinds in
     ap₂ (λ (gs : List Gate) (ps : List Pair). record { contacts = net .contacts; gates = gs; pairs = ps })
     (both .0 ∙ ap (_++_ (net .gates)) (outputs .0) ∙ append-nil (net .gates))
     (both .1 ∙ outputs .1)
 
 -- Every number on the sheet of an accepted netlist has at most five digits.
-small-rows : (net : Netlist) → Bounds net → Wired net → PairsWired net → Each SmallRow (rowsOf net)
+small-rows : (net : Netlist) → Bounds net → Wired net → PairsWired net → Every SmallRow (rowsOf net)
 small-rows net b w p =
-    each-append SmallRow (numberedRows gateRow (gateLine (net .contacts)) (net .gates)) (numberedRows outputRow 0 (net .pairs))
-    (each-numbered SmallRow gateRow (gateLine (net .contacts)) (net .gates) no-gate
+    every-append SmallRow (numberedRows gateRow (gateLine (net .contacts)) (net .gates)) (numberedRows outputRow 0 (net .pairs))
+    (every-numbered SmallRow gateRow (gateLine (net .contacts)) (net .gates) no-gate
     (λ i h.
     let on = w i no-gate h in
     let few = b .gates in
     let most = b .most in
     record { number = omega arith; first = omega (arith, on .left); second = omega (arith, on .right) }))
-    (each-numbered SmallRow outputRow 0 (net .pairs) no-pair
+    (every-numbered SmallRow outputRow 0 (net .pairs) no-pair
     (λ j h.
     let in! = p j no-pair h in
     let few = b .gates in

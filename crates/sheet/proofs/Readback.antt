@@ -9,6 +9,7 @@ use mathlib.Core.List.{List, [], _∷_, _++_}
 use lib.Dec.{ltb, eqb}
 use lib.ListN.{length, getD, take, drop, length-append}
 use lib.Seq.{take-at, drop-at, drop-append-seam}
+use Rattle.fields.proofs.Every.{Every}
 use Rattle.sheet.specs.declared.row.Kind.{Kind}
 use Rattle.sheet.specs.declared.row.Kind.the-variants.{And, Or, Out}
 use Rattle.sheet.specs.declared.row.Row.{Row}
@@ -78,26 +79,14 @@ read-row r s =
 row-same : (r s : Row) → SmallRow r → SmallRow s → rowText r ≡ rowText s → r ≡ s
 row-same r s p q e = sym (read-row r p) ∙ ap rowIn e ∙ read-row s q
 
-abbrev pub Each : {A : Type 0} → (A → Type 0) → List A → Type 0
-Each P [] = Unit
-Each P (x ∷ xs) = P x × Each P xs
-
-pub each-by : {A : Type 0} (P : A → Type 0) (xs : List A) (d : A) → ((i : ℕ) → i < length xs → P (getD xs i d)) → Each P xs
-each-by P [] d h = tt
-each-by P (x ∷ xs) d h = (h 0 (omega arith), each-by P xs d (λ i l. h (suc i) (omega arith)))
-
-pub each-append : {A : Type 0} (P : A → Type 0) (xs ys : List A) → Each P xs → Each P ys → Each P (xs ++ ys)
-each-append P [] ys p q = q
-each-append P (x ∷ xs) ys p q = (p .0, each-append P xs ys (p .1) q)
-
-pub each-numbered : {A : Type 0} (P : Row → Type 0) (row : ℕ → A → Row) (k : ℕ) (xs : List A) (d : A) →
-    ((i : ℕ) → i < length xs → P (row (k + i) (getD xs i d))) → Each P (numberedRows row k xs)
+pub every-numbered : {A : Type 0} (P : Row → Type 0) (row : ℕ → A → Row) (k : ℕ) (xs : List A) (d : A) →
+    ((i : ℕ) → i < length xs → P (row (k + i) (getD xs i d))) → Every P (numberedRows row k xs)
 unfolding numberedRows
-each-numbered P row k [] d h = tt
-each-numbered P row k (x ∷ xs) d h =
+every-numbered P row k [] d h = tt
+every-numbered P row k (x ∷ xs) d h =
     let next : (i : ℕ) → i < length xs → P (row (suc k + i) (getD xs i d)) = λ i l.
     let e : k + suc i ≡ suc k + i = omega arith in rw e at (h (suc i) (omega arith)) in
-    (rw add-zero at (h 0 (omega arith)), each-numbered P row (suc k) xs d next)
+    (rw add-zero at (h 0 (omega arith)), every-numbered P row (suc k) xs d next)
 
 -- The rows' texts determine the rows.
 short : (k : ℕ) (r : Row) (rs : List Row) → length (headingAfter k ++ rowText r ++ rowsFrom (suc k) rs) ≡ 0 → ⊥
@@ -106,7 +95,7 @@ short k r rs e =
     let m = length-append (headingAfter k) (rowText r) in
     omega (arith, length-row r)
 
-pub rows-same : (k : ℕ) (rs ss : List Row) → Each SmallRow rs → Each SmallRow ss → rowsFrom k rs ≡ rowsFrom k ss → rs ≡ ss
+pub rows-same : (k : ℕ) (rs ss : List Row) → Every SmallRow rs → Every SmallRow ss → rowsFrom k rs ≡ rowsFrom k ss → rs ≡ ss
 unfolding rowsFrom
 rows-same k [] [] p q e = refl
 rows-same k [] (s ∷ ss) p q e = absurd (short k s ss (sym (ap length e)))

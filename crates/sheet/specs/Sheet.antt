@@ -1,4 +1,4 @@
--- The gate sheet: a row of 21 characters and a line feed for each gate and each output, under headings.
+-- The gate sheet, a netlist's listing for print: a row of 21 characters and a line feed for each gate and each output, under headings.
 use Prim.Native.Nat.{ℕ, zero, suc, _+_, _-_, _/_, _%_}
 use Prim.Native.Char.{code}
 use Prim.Native.String.{String, [] as end, _∷_ as _then_}

@@ -52,7 +52,7 @@ fn put_next(text: &mut [u8], before: usize, row: Row)
     row::put_row(text, 22 * (1 + before + before / 50), row);
 }
 
-// Writes the gates' rows, the first on a line, below the first heading.
+// Writes the gates' rows below the first heading, given the first gate's line.
 fn put_gates(text: &mut [u8], line: usize, gates: &[u8])
     requires { ⌜ (line + length (now gates) / 5 < 65536) × (endOf (length (now gates) / 5) ≤ length (now text)) ⌝ }
     ensures { λ _. ⌜ now (text .exit)

@@ -6,14 +6,14 @@ use mathlib.Core.Bool.{Bool, true, false, cond}
 use mathlib.Core.List.{List, [], _∷_}
 use lib.Dec.{eqb}
 use lib.ListN.{getD}
+use Rattle.fields.proofs.Every.{Every}
 use Rattle.netlist.specs.declared.Hold.{Hold}
 use Rattle.netlist.specs.Netlist.{Netlist}
 use Rattle.simulation.specs.Run.{gateOf, held, holding, valuesOf}
 use Rattle.simulation.proofs.Related.{Pairwise, none, more, each-at, each-driver, run-each}
 
 abbrev pub AllHeld : (ℕ → Type 0) → List Hold → Type 0
-AllHeld P [] = Unit
-AllHeld P (h ∷ hs) = P (h .value) × AllHeld P hs
+AllHeld P = Every (λ (h : Hold). P (h .value))
 
 -- What holds of what is made and of each held value holds of what a line shows.
 pub held-by : (P Q : ℕ → Type 0) → ((v : ℕ) → Q v → P v) → (hs : List Hold) → AllHeld Q hs → (x v : ℕ) → P v → P (held hs x v)
