@@ -7,3 +7,4 @@ pub mod Words
 pub mod Loops
 pub mod Turns
 pub mod Asked
+pub mod Ignored

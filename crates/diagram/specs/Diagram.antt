@@ -1,5 +1,6 @@
 -- Decision diagrams by levels: their widths and edges, and the value of an output at an input.
-use Prim.Native.Nat.{ℕ, zero, suc, _+_, _*_, _/_, _%_, _^_}
+use Prim.Native.Nat.{ℕ, zero, suc, _+_, _*_, _/_, _%_, _^_, _<_}
+use mathlib.Core.Path.{_≡_}
 use mathlib.Core.Bool.{Bool, true, false, cond}
 use lib.Dec.{ltb, eqb}
 use lib.ListN.{getD}
@@ -41,6 +42,11 @@ path d x (suc levels) l u = path d x levels (suc l) (edge d l u (x l))
 -- The value of output j: the constant that its node leads to.
 unfoldable pub valueAt : Diagram → Input → ℕ → ℕ
 valueAt d x j = path d x (d .contacts) 0 (root d j)
+
+-- No output's value depends on contact i: it is the same at inputs that differ there alone.
+abbrev pub Ignores : Diagram → ℕ → Type 0
+Ignores d i =
+    (x y : Input) → ((k : ℕ) → (k ≡ i → ⊥) → x k ≡ y k) → (j : ℕ) → j < d .outputs → valueAt d x j ≡ valueAt d y j
 
 -- The values of the first outputs as a number, output j with the weight 2^j.
 unfoldable pub wordAt : Diagram → Input → ℕ → ℕ

@@ -7,3 +7,4 @@ pub mod Files
 pub mod Written
 pub mod Opened
 pub mod Promises
+pub mod Readers

@@ -1,6 +1,8 @@
 -- Netlists, and their files: five bytes a gate, four bytes an output, three bytes a hold.
 use Prim.Native.Nat.{ℕ, _+_, _*_, _/_, _%_}
+use mathlib.Core.Bool.{Bool, false, _||_}
 use mathlib.Core.List.{List, [], _∷_, flatMap}
+use lib.Dec.{eqb}
 use lib.ListN.{length, getD}
 use Rattle.fields.specs.Bounded.{listed}
 use Rattle.fields.specs.Fields.{numberOf, encoded}
@@ -19,6 +21,17 @@ gateLine n = 2 + 2 * n
 
 abbrev pub lineCount : Netlist → ℕ
 lineCount net = gateLine (net .contacts) + length (net .gates)
+
+-- Whether some element of a list passes.
+unfoldable pub anyOf : {A : Type 0} → (A → Bool) → List A → Bool
+anyOf p [] = false
+anyOf p (x ∷ xs) = p x || anyOf p xs
+
+-- Whether some gate or output reads a line.
+unfoldable pub isRead : Netlist → ℕ → Bool
+isRead net line =
+    anyOf (λ (g : Gate). eqb (g .left) line || eqb (g .right) line) (net .gates)
+    || anyOf (λ (p : Pair). eqb (p .on) line || eqb (p .off) line) (net .pairs)
 
 -- Every two-byte number has its high byte first.
 abbrev pub numberAt : List ℕ → ℕ → ℕ
