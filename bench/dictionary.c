@@ -9,11 +9,16 @@
 
 static const char *const ways[] = {[PILGODUR_WAY_BOTH_LOW] = "both low", [PILGODUR_WAY_BOTH_HIGH] = "both high"};
 
+/* The row of a line that nothing reads has no input. */
 static void add_row(FILE *out, const struct file *table, unsigned contacts, unsigned line, unsigned value)
 {
     static uint8_t buffer[PILGODUR_FILE_MAX + PILGODUR_LINES_MAX];
     const uint8_t hold[] = {(uint8_t)(line / 256), (uint8_t)line, (uint8_t)value};
     pilgodur_probed probed = pilgodur_probe(table->at, table->length, hold, sizeof hold, buffer, sizeof buffer);
+    if (probed.refusal == PILGODUR_REFUSAL_UNREAD) {
+        fprintf(out, "%u,%u,,,,unread\n", line, value);
+        return;
+    }
     if (probed.refusal != 0)
         refuse(probed.refusal, "%s with hold %u=%u", table->name, line, value);
     fprintf(out, "%u,%u,%" PRIu32 ",%s,%" PRIu32 ",%s\n", line, value, probed.input, contacts_at(probed.input, contacts).text,

@@ -4,21 +4,6 @@
 
 static const char *const rail_names[] = {"true", "false"};
 
-static bool is_read(const struct netlist *netlist, unsigned line)
-{
-    for (unsigned g = 0; g < netlist->gates; g++) {
-        struct gate gate = gate_at(netlist, g);
-        if (gate.first == line || gate.second == line)
-            return true;
-    }
-    for (unsigned j = 0; j < netlist->outputs; j++) {
-        struct pair pair = pair_at(netlist, j);
-        if (pair.yes == line || pair.no == line)
-            return true;
-    }
-    return false;
-}
-
 /* The line of an output's rail. */
 static unsigned output_line(const struct netlist *netlist, unsigned output, unsigned rail)
 {

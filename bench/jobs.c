@@ -42,7 +42,7 @@ void use_largest_board(unsigned contacts)
 void use_random_board(unsigned contacts, unsigned outputs)
 {
     struct diagram d;
-    random_diagram(&dice, contacts, outputs, &d);
+    busy_diagram(&dice, contacts, outputs, &d);
     use_diagram(&d);
 }
 

@@ -23,7 +23,7 @@ struct job {
 extern struct dice dice;
 extern struct job job;
 
-/* The board of the largest diagram with so many contacts, and of one drawn at random. No line is held. */
+/* The board of the largest diagram with so many contacts, and of one drawn at random; no contact is spare. No line is held. */
 void use_largest_board(unsigned contacts);
 void use_random_board(unsigned contacts, unsigned outputs);
 

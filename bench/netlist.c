@@ -36,6 +36,21 @@ bool is_or(const struct gate *gate)
     return gate->kind[0] == 'O';
 }
 
+bool is_read(const struct netlist *netlist, unsigned line)
+{
+    for (unsigned g = 0; g < netlist->gates; g++) {
+        struct gate gate = gate_at(netlist, g);
+        if (gate.first == line || gate.second == line)
+            return true;
+    }
+    for (unsigned j = 0; j < netlist->outputs; j++) {
+        struct pair pair = pair_at(netlist, j);
+        if (pair.yes == line || pair.no == line)
+            return true;
+    }
+    return false;
+}
+
 /* The view of a file that is known to be a netlist. */
 static struct netlist view(const char *name, const uint8_t *bytes, size_t length)
 {

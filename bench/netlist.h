@@ -34,6 +34,9 @@ struct gate gate_at(const struct netlist *netlist, unsigned gate);
 struct pair pair_at(const struct netlist *netlist, unsigned output);
 bool is_or(const struct gate *gate);
 
+/* Whether a line is a source of some gate or a line of some output. */
+bool is_read(const struct netlist *netlist, unsigned line);
+
 /* The netlist in a file that gets a yes to questions 11 and 12. A file that does not ends the program. */
 struct netlist netlist_in(const struct file *file);
 

@@ -16,11 +16,25 @@ static pilgodur_checked checked_table(const struct file *table)
     return checked;
 }
 
+/* A line with the numbers of the contacts whose rails nothing reads, if there are such contacts. */
+static void show_spare_contacts(FILE *out, const struct netlist *netlist)
+{
+    unsigned spare = 0;
+    for (unsigned i = 0; i < netlist->contacts; i++)
+        if (!is_read(netlist, 2 + 2 * i) && !is_read(netlist, 3 + 2 * i))
+            fprintf(out, "%s%u", spare++ == 0 ? "spare contacts " : ", ", i);
+    if (spare > 0)
+        fputc('\n', out);
+}
+
 enum status check(struct request *request, FILE *out)
 {
-    pilgodur_checked checked = checked_table(load_operand(request, 0));
+    const struct file *table = load_operand(request, 0);
+    pilgodur_checked checked = checked_table(table);
+    struct netlist netlist = netlist_of(table, room);
     fprintf(out, "contacts %" PRIu32 "\noutputs %" PRIu32 "\ngates %" PRIu32 "\ndepth %" PRIu32 "\n", checked.contacts,
             checked.outputs, checked.gates, checked.depth);
+    show_spare_contacts(out, &netlist);
     return ANSWERED;
 }
 
@@ -61,7 +75,7 @@ enum status probe(struct request *request, FILE *out)
     read_hold(request->operand[1], hold);
     const struct file *table = load_operand(request, 0);
     pilgodur_probed probed = pilgodur_probe(table->at, table->length, hold, sizeof hold, room, sizeof room);
-    if (probed.refusal == PILGODUR_REFUSAL_HOLDS)
+    if (probed.refusal == PILGODUR_REFUSAL_HOLDS || probed.refusal == PILGODUR_REFUSAL_UNREAD)
         refuse(probed.refusal, "%s with hold %s", table->name, request->operand[1]);
     if (probed.refusal != 0)
         refuse(probed.refusal, "%s", table->name);

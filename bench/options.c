@@ -42,7 +42,7 @@ static const struct option options[] = {
 static const char help[] =
     "usage: pilgodur COMMAND OPERAND... [OPTION...]\n"
     "\n"
-    "  check TABLE                     ask the table's questions; show contacts, outputs, gates and depth\n"
+    "  check TABLE                     ask the table's questions; show contacts, outputs, gates, depth and spare contacts\n"
     "  build TABLE [-o FILE]           build the netlist; without -o show it as hex: text\n"
     "  list TABLE|NETLIST              print the gate sheet: a row for each gate, then one for each output\n"
     "  compare A B [--all]             lay the gate lists of two tables or netlists side by side: show how many gates differ, the\n"
@@ -51,7 +51,7 @@ static const char help[] =
     "  run NETLIST INPUT|RAILS [HOLD...] [--lines]\n"
     "                                  run a netlist with lines held; show the output pairs\n"
     "  probe TABLE HOLD [--lines]      find the smallest input at which a held line shows\n"
-    "  dictionary TABLE [-o FILE]      probe every line at both values; write the answers as CSV\n"
+    "  dictionary TABLE [-o FILE]      probe every line at both values; write the answers as CSV; unread: nothing reads the line\n"
     "  export TABLE|NETLIST --blif|--verilog|--dot [-o FILE]\n"
     "                                  write the netlist for other tools, line 8 as the net l8\n"
     "\n"

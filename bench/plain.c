@@ -116,18 +116,6 @@ static bool nodes_in_order(const struct table *t)
     return true;
 }
 
-static bool contacts_used(const struct table *t)
-{
-    for (unsigned l = 0; l < t->contacts; l++) {
-        unsigned u = 0;
-        while (u < t->width[l] && t->edge[l][2 * u] == t->edge[l][2 * u + 1])
-            u++;
-        if (u == t->width[l])
-            return false;
-    }
-    return true;
-}
-
 static uint32_t read_table(const uint8_t *file, size_t length, struct table *t)
 {
     if (!whole_fields(file, length))
@@ -147,8 +135,6 @@ static uint32_t read_table(const uint8_t *file, size_t length, struct table *t)
         return 6;
     if (!nodes_in_order(t))
         return 7;
-    if (!contacts_used(t))
-        return 8;
     return 0;
 }
 
@@ -391,6 +377,18 @@ uint32_t plain_run(const uint8_t *netlist, size_t netlist_len, const uint8_t *ra
     return 0;
 }
 
+/* Question 15. */
+static bool is_read(const struct table *t, const struct matrix *whole, unsigned line)
+{
+    for (unsigned g = 0; g < gate_count; g++)
+        if (gates[g].left == line || gates[g].right == line)
+            return true;
+    for (unsigned j = 0; j < t->outputs; j++)
+        if (whole->entry[t->output[j]][0] == line || whole->entry[t->output[j]][1] == line)
+            return true;
+    return false;
+}
+
 /* Works out every line at a code input with one line held. */
 static void work_out(unsigned contacts, uint32_t input, unsigned held, uint8_t held_at)
 {
@@ -422,7 +420,7 @@ static pilgodur_probed search(const struct table *t, const struct matrix *whole,
                 return (pilgodur_probed){0, input, j, value[pair[0]]};
         }
     }
-    return (pilgodur_probed){15, 0, 0, 0}; /* not reached: every line is seen at some input */
+    return (pilgodur_probed){UINT32_MAX, 0, 0, 0}; /* not reached: a line that is read is seen at some input */
 }
 
 pilgodur_probed plain_probe(const uint8_t *table, size_t table_len, const uint8_t *hold, size_t hold_len,
@@ -437,6 +435,8 @@ pilgodur_probed plain_probe(const uint8_t *table, size_t table_len, const uint8_
     unsigned count = 2 + 2 * t.contacts + gate_count;
     if (hold_len != 3 || !holds_good(hold, hold_len, count))
         return (pilgodur_probed){14, 0, 0, 0};
+    if (!is_read(&t, &whole, two_bytes(hold)))
+        return (pilgodur_probed){15, 0, 0, 0};
     if (buffer_len < file_length(&t) + count)
         return (pilgodur_probed){9, 0, 0, 0};
     pilgodur_probed answer = search(&t, &whole, two_bytes(hold), hold[2]);

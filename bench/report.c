@@ -8,8 +8,15 @@
 #include "../include/pilgodur.h"
 
 #define QUESTION(number, name, text) [number] = text,
-static const char *const questions[] = {[0] = "", PILGODUR_QUESTIONS(QUESTION)};
+static const char *const questions[] = {PILGODUR_QUESTIONS(QUESTION)};
 #undef QUESTION
+
+/* Not every number has a question. */
+static const char *question_of(uint32_t refusal)
+{
+    const char *question = refusal < sizeof questions / sizeof *questions ? questions[refusal] : NULL;
+    return question != NULL ? question : "an unknown question.";
+}
 
 static void say(const char *format, va_list args)
 {
@@ -33,7 +40,6 @@ void refuse(uint32_t refusal, const char *format, ...)
     va_start(args, format);
     say(format, args);
     va_end(args);
-    const char *question = refusal < sizeof questions / sizeof *questions ? questions[refusal] : "an unknown question.";
-    fprintf(stderr, ": refused, number %" PRIu32 ": %s No.\n", refusal, question);
+    fprintf(stderr, ": refused, number %" PRIu32 ": %s No.\n", refusal, question_of(refusal));
     exit(SAID_NO);
 }

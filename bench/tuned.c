@@ -54,7 +54,7 @@ static uint32_t find_fields(const uint8_t *file, size_t length, struct table *t)
 }
 
 struct faults {
-    bool outside, twins, order, spare;
+    bool outside, twins, order;
 };
 
 /* Each mention is of a node that was mentioned, or of the next. */
@@ -67,7 +67,7 @@ static unsigned mention(unsigned node, unsigned mentioned, bool *late)
 static void ask_level(const struct table *t, unsigned l, struct faults *found)
 {
     const uint8_t *edge = t->edge[l];
-    unsigned after = t->width[l + 1], mentioned = 0, differ = 0;
+    unsigned after = t->width[l + 1], mentioned = 0;
     uint64_t pairs = 0;
     bool late = false;
     for (unsigned u = 0; u < t->width[l]; u++) {
@@ -76,16 +76,14 @@ static void ask_level(const struct table *t, unsigned l, struct faults *found)
         found->outside |= (zero >= after) | (one >= after);
         found->twins |= (pairs & pair) != 0;
         pairs |= pair;
-        differ |= zero ^ one;
         mentioned = mention(one, mention(zero, mentioned, &late), &late);
     }
     found->order |= l + 1 < t->contacts && (late || mentioned != after);
-    found->spare |= differ == 0;
 }
 
 static uint32_t read_table(const uint8_t *file, size_t length, struct table *t)
 {
-    struct faults found = {false, false, false, false};
+    struct faults found = {false, false, false};
     unsigned mentioned = 0;
     uint32_t refusal = find_fields(file, length, t);
     if (refusal != 0)
@@ -97,7 +95,7 @@ static uint32_t read_table(const uint8_t *file, size_t length, struct table *t)
     found.order |= mentioned != t->width[0];
     for (unsigned l = 0; l < t->contacts; l++)
         ask_level(t, l, &found);
-    return found.outside ? 5 : found.twins ? 6 : found.order ? 7 : found.spare ? 8 : 0;
+    return found.outside ? 5 : found.twins ? 6 : found.order ? 7 : 0;
 }
 
 /* ---- From levels to gates. ---- */
@@ -493,7 +491,7 @@ static words no_code(const struct search *s, const uint8_t *pair)
     return ~(s->value[two_bytes(pair)] ^ s->value[two_bytes(pair + 2)]);
 }
 
-/* The first input at which some pair is no code. An accepted table has one for every line, so the search ends. */
+/* The first input at which some pair is no code. There is one for every line that is read, so the search ends. */
 static uint32_t find_input(struct search *s, const struct table *t, const uint8_t *pairs, const uint8_t *hold)
 {
     for (uint32_t input = 0;; input += INPUTS) {
@@ -519,6 +517,17 @@ static pilgodur_probed search(struct search *s, const struct table *t, const uin
     return (pilgodur_probed){0, input, j, hold[2]};
 }
 
+/* Question 15 without a look at the netlist: every gate is read, and a rail exactly if a node of its level has two different edges. */
+static bool is_read(const struct table *t, unsigned line)
+{
+    unsigned l = line / 2 - 1, u = 0;
+    if (l >= t->contacts)
+        return true;
+    while (u < t->width[l] && t->edge[l][2 * u] == t->edge[l][2 * u + 1])
+        u++;
+    return u < t->width[l];
+}
+
 pilgodur_probed tuned_probe(const uint8_t *table, size_t table_len, const uint8_t *hold, size_t hold_len,
                             uint8_t *buffer, size_t buffer_len)
 {
@@ -531,6 +540,8 @@ pilgodur_probed tuned_probe(const uint8_t *table, size_t table_len, const uint8_
     size_t length = put_file(&t, made, &s.lines);
     if (hold_len != 3 || !holds_good(hold, hold_len, s.lines))
         return (pilgodur_probed){14, 0, 0, 0};
+    if (!is_read(&t, two_bytes(hold)))
+        return (pilgodur_probed){15, 0, 0, 0};
     if (buffer_len < length + s.lines)
         return (pilgodur_probed){9, 0, 0, 0};
     s.first = 2 + 2 * t.contacts;

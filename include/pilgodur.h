@@ -14,6 +14,10 @@
  * A netlist with n contacts and g gates has 2+2n+g lines. A pair is written true rail first: 10 is yes, 01 is no, 00 and 11 are
  * no code. Input number a gives contact i the weight 2^i.
  *
+ * SPARE CONTACTS. A line is read if it is a source of some gate, or the true or the false line of some output. A contact of a table is
+ * spare if no output's value depends on it. Nothing in the table's netlist reads the two rails of a spare contact; every other line
+ * from 2 up is read.
+ *
  * HOLDS. A hold is three bytes: a line, then the value 0 or 1 at which it is held.
  *
  * SHEET. A gate sheet is a netlist as text for paper, in rows of 21 characters and a line feed. A number stands in columns 1 to 5, a
@@ -44,13 +48,13 @@
 extern "C" {
 #endif
 
-#define PILGODUR_VERSION "1.1.0"
-#define PILGODUR_VERSION_MAJOR 1
-#define PILGODUR_VERSION_MINOR 1
+#define PILGODUR_VERSION "2.0.0"
+#define PILGODUR_VERSION_MAJOR 2
+#define PILGODUR_VERSION_MINOR 0
 #define PILGODUR_VERSION_PATCH 0
 
-/* The questions, as Q(number, name, text) for each. A no to question 6 is the refusal 6, PILGODUR_REFUSAL_TWINS. The holds of
- * question 14 are just one for probe. */
+/* The questions, as Q(number, name, text) for each. A no to question 6 is the refusal 6, PILGODUR_REFUSAL_TWINS. Number 8 is never
+ * given. The holds of question 14 are just one for probe. */
 #define PILGODUR_QUESTIONS(Q) \
     Q(1, PILGODUR_REFUSAL_FIELDS, "Do the bytes split into whole fields with nothing left over?") \
     Q(2, PILGODUR_REFUSAL_CONTACTS, "Is the first field tag 1, length 1, value 1 to 12?") \
@@ -59,7 +63,6 @@ extern "C" {
     Q(5, PILGODUR_REFUSAL_NODES, "Does every edge and output name a node that its level has?") \
     Q(6, PILGODUR_REFUSAL_TWINS, "Does each pair of nodes of one level differ in an edge?") \
     Q(7, PILGODUR_REFUSAL_NUMBERING, "Are nodes numbered by first mention, and all mentioned?") \
-    Q(8, PILGODUR_REFUSAL_IDLE_LEVEL, "Has every level a node whose edges differ?") \
     Q(9, PILGODUR_REFUSAL_BUFFER, "Is the lent buffer long enough?") \
     Q(10, PILGODUR_REFUSAL_INPUT, "Is the input below 2^n?") \
     Q(11, PILGODUR_REFUSAL_NETLIST, "Does the netlist have whole fields of tags 1, 4, 5 in that order and no more, tag 1 as in " \
@@ -67,7 +70,8 @@ extern "C" {
     Q(12, PILGODUR_REFUSAL_WIRING, "Is every kind 0 or 1, every source below its gate's own line, every output line in the netlist?") \
     Q(13, PILGODUR_REFUSAL_RAILS, "Are there 2n rail bytes, in line order, each 0 or 1?") \
     Q(14, PILGODUR_REFUSAL_HOLDS, "Are the holds whole, each naming a line from 2 up that is in the netlist, with value 0 or 1, " \
-      "lines strictly rising?")
+      "lines strictly rising?") \
+    Q(15, PILGODUR_REFUSAL_UNREAD, "Does some gate or output read the line?")
 
 #define PILGODUR_REFUSAL_(number, name, text) name = number,
 enum pilgodur_refusal { PILGODUR_REFUSAL_NONE = 0, PILGODUR_QUESTIONS(PILGODUR_REFUSAL_) };
@@ -88,15 +92,15 @@ typedef struct { uint32_t refusal, length; } pilgodur_built;
 typedef struct { uint32_t refusal, word; } pilgodur_reading;
 typedef struct { uint32_t refusal, input, output, way; } pilgodur_probed;
 
-/* Checks a table. Questions 1 to 8. Returns its contacts and outputs, and the gates and depth of its netlist. A rail or constant
+/* Checks a table. Questions 1 to 7. Returns its contacts and outputs, and the gates and depth of its netlist. A rail or constant
  * has depth 0, a gate one more than its deeper source; the netlist's depth is its largest. */
 pilgodur_checked pilgodur_check(const uint8_t *table, size_t table_len);
 
-/* Builds the netlist of a table. Questions 1 to 8, then 9. Writes the netlist file to the start of file and returns its length,
+/* Builds the netlist of a table. Questions 1 to 7, then 9. Writes the netlist file to the start of file and returns its length,
  * which is 10 + 5 * gates + 4 * outputs; file needs at least that length. */
 pilgodur_built pilgodur_build(const uint8_t *table, size_t table_len, uint8_t *file, size_t file_len);
 
-/* Reads all outputs off a table at an input. Questions 1 to 8, then 10. Returns a word in which output j has the weight 2^j. */
+/* Reads all outputs off a table at an input. Questions 1 to 7, then 10. Returns a word in which output j has the weight 2^j. */
 pilgodur_reading pilgodur_read_off(const uint8_t *table, size_t table_len, uint32_t input);
 
 /* Runs a netlist, built by pilgodur_build or not, with lines held. Questions 11 to 14, then 9 for either buffer. Returns the
@@ -109,10 +113,11 @@ uint32_t pilgodur_run(const uint8_t *netlist, size_t netlist_len, const uint8_t 
                       const uint8_t *holds, size_t holds_len, uint8_t *lines, size_t lines_len,
                       uint8_t *pairs, size_t pairs_len);
 
-/* Probes one line of a table's board. Questions 1 to 8, then 14, then 9. hold is one hold, three bytes. Returns the smallest code
+/* Probes one line of a table's board. Questions 1 to 7, then 14, 15 and 9. hold is one hold, three bytes. Returns the smallest code
  * input at which the held line makes some pair 00 or 11, the lowest such output there, and the way it shows: 0 both low, for a
- * line held at 0, or 1 both high, for a line held at 1. Such an input always exists. Writes to buffer the netlist file, then the
- * value of every line at that input with the line held, one byte each from line 0 up; buffer needs the length of both. */
+ * line held at 0, or 1 both high, for a line held at 1. Such an input exists for every line that is read, and for no other. Writes
+ * to buffer the netlist file, then the value of every line at that input with the line held, one byte each from line 0 up; buffer
+ * needs the length of both. */
 pilgodur_probed pilgodur_probe(const uint8_t *table, size_t table_len, const uint8_t *hold, size_t hold_len,
                                uint8_t *buffer, size_t buffer_len);
 

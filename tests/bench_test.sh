@@ -62,7 +62,7 @@ judge() {
     fi
 }
 
-# Tables that each of the questions 1 to 8 refuses.
+# Tables that each of the questions 1 to 7 refuses.
 q1=hex:0100010102000100030003
 q2=hex:0100010d
 q3=hex:01000101020000
@@ -70,10 +70,16 @@ q4=hex:0100010102000100
 q5=hex:01000101020001000300020002
 q6=hex:0100010202000100030002000103000400010001
 q7=hex:0100010202000100030002010003000400010100
-q8=hex:010001020200010003000200000300020001
 # Netlists that questions 11 and 12 refuse.
 q11=hex:010001010400010005000400020003
 q12=hex:01000101040005020002000305000400040003
+
+# Tables with spare contacts: the first of two; both, and the constants 0 and 1 as outputs; the only one, and 0 as the output; all but
+# the last of twelve. In spare.table the first and the last of four are spare.
+first_spare=hex:010001020200010003000200000300020001
+both_spare=hex:0100010202000200010300040000010103000400000101
+only_spare=hex:01000101020001000300020000
+eleven_spare=hex:0100010c02000100$(printf '0300020000%.0s' 1 2 3 4 5 6 7 8 9 10 11)0300020001
 
 # netlist CONTACTS "KIND SOURCE SOURCE ..." "TRUE FALSE ...": the hex: text of a netlist.
 netlist() {
@@ -101,7 +107,7 @@ try check @selector.table
 try check 'hex:01 00 01 01 02 00 01 00 03 00 02 00 01'
 pipe 'pilgodur check - <selector.table'
 for table in $q1 hex: $q2 $q3 $q4 hex:010001010200010003000100 hex:0100010102000100030012000000000000000000000000000000000000 \
-    $q5 $q6 $q7 $q8; do
+    $q5 $q6 $q7 spare.table $first_spare $both_spare $only_spare "$eleven_spare"; do
     try check "$table"
 done
 try check selector.netlist
@@ -116,6 +122,10 @@ try build widest.table -o widest.netlist
 pipe 'cksum <widest.netlist'
 pipe 'pilgodur build widest.table -o - | cksum'
 pipe 'pilgodur build widest.table | cksum'
+try build spare.table -o spare.netlist
+try build spare.table
+try build $first_spare
+try build $both_spare
 try build hex:
 try build $q6 -o built.netlist
 pipe 'cmp built.netlist selector.netlist'
@@ -128,6 +138,8 @@ try list selector.table
 try list selector.netlist
 try list single.table
 try list lift.table
+try list spare.table
+try list $both_spare
 try list "$(netlist 1 'OR 0 1 AND 4 4' '5 0 1 3')"
 pipe 'pilgodur build selector.table -o - | pilgodur list -'
 pipe 'pilgodur list selector.netlist | cmp - "$root/tests/expected/sheet.txt"'
@@ -174,6 +186,9 @@ try read-off selector.table contacts:110
 try read-off selector.table contacts:001
 try read-off lift.table 15
 try read-off lift.table contacts:0010
+try read-off spare.table contacts:0010
+try read-off spare.table contacts:1011
+try read-off $both_spare 3
 try read-off hex: 0
 try read-off hex: contacts:000
 try read-off $q6 8
@@ -200,6 +215,9 @@ try run selector.netlist 0 8=1 9=1 16=1 --lines
 try run selector.netlist 0 10=0
 try run selector.netlist 3 10=1
 try run selector.netlist hex:000000000000
+# Both rails of the spare contacts at 0, then held at 1: no pair changes.
+try run spare.netlist hex:0000010001000000
+try run spare.netlist 6 2=1 3=1 8=1 9=1
 pipe 'printf "\0\001\0\001\0\001" >3; pilgodur run selector.netlist @3'
 pipe 'printf "\0\001\0\001\0\001" | pilgodur run selector.netlist -'
 pipe 'pilgodur build selector.table | pilgodur run - 3'
@@ -241,6 +259,13 @@ try probe single.table 2=1
 try probe lift.table 21=0
 try probe widest.table 1383=0
 pipe 'pilgodur probe widest.table 1383=0 --lines | cksum'
+try probe spare.table 4=1
+try probe spare.table 11=0 --lines
+for hold in 2=0 2=1 3=0 8=1 9=0 1=0 2=2 13=0; do
+    try probe spare.table $hold
+done
+try probe spare.table 9=1 --lines
+try probe $both_spare 5=0
 try probe selector.table 17=0
 try probe selector.table 65546=0
 try probe selector.table 10=256
@@ -254,6 +279,12 @@ try compare selector.table selector.netlist
 try compare selector.netlist "$(netlist 3 "$gates OR 15 12" '16 14')"
 try compare widest.table widest.netlist
 pipe 'pilgodur build lift.table | pilgodur compare - lift.table'
+try compare spare.table spare.netlist
+try compare $both_spare "$(netlist 2 '' '0 1 1 0')"
+# Another contact is spare; none is; the output is a constant.
+try compare $first_spare "$(netlist 2 '' '2 3')"
+try compare $first_spare "$(netlist 2 'AND 2 4 OR 3 5' '6 7')"
+try compare $first_spare "$(netlist 2 '' '1 0')"
 # An OR with its sources exchanged; an AND in its place; the ANDs of each product numbered before its ORs.
 try compare selector.table "$(netlist 3 "$gates OR 12 15" '16 14')"
 try compare selector.table "$(netlist 3 "$gates AND 15 12" '16 14')"
@@ -280,6 +311,8 @@ judge
 transcript dictionary
 try dictionary selector.table
 try dictionary single.table
+try dictionary spare.table
+try dictionary $both_spare
 pipe '(ulimit -t 1; pilgodur dictionary widest.table) | cksum' # in a second of processor time
 try dictionary lift.table -o lift.csv
 pipe 'head -n 3 lift.csv; wc -l <lift.csv'
@@ -294,6 +327,8 @@ for format in --blif --verilog --dot; do
     try export selector.table $format
     try export single.table $format
     try export "$constants" $format
+    try export spare.table $format
+    try export $only_spare $format
 done
 try export selector.netlist --blif -o selector.blif
 pipe 'pilgodur export selector.table --blif | cmp - selector.blif'

@@ -1,4 +1,5 @@
-/* Compares the library with the reference, call by call, on random cases, and asks the demands of boards that the library builds.
+/* Compares the library with the reference, call by call, on boards with spare contacts in every place and on random cases, and asks
+ * the demands of boards that the library builds.
  *
  *     compare [SEED [CASES]]
  *
@@ -19,7 +20,7 @@
 #include "lent.h"
 #include "reference.h"
 
-enum { STRINGS = 5, NUMBERS = 5, REFUSALS = 15, NOISE = 1 << 19, MOST_DIFFERENCES = 10 };
+enum { STRINGS = 5, NUMBERS = 5, REFUSALS = 16, NOISE = 1 << 19, MOST_DIFFERENCES = 10 };
 enum service { CHECK, BUILD, READ_OFF, RUN, PROBE, SHEET, SERVICES };
 enum side { LIBRARY, REFERENCE, SIDES };
 
@@ -39,7 +40,7 @@ static const char *const number_names[SERVICES][NUMBERS] = {
     {"refusal", "length"}};
 
 /* The numbers that each service can give, as a set of bits. */
-static const unsigned possible[SERVICES] = {0x1ff, 0x3ff, 0x5ff, 0x7a01, 0x43ff, 0x1a01};
+static const unsigned possible[SERVICES] = {0xff, 0x2ff, 0x4ff, 0x7a01, 0xc2ff, 0x1a01};
 
 /* Sizes of netlists whose sheets are compared again and again: about the end of a page, with no gates, and the largest. */
 static const struct size {
@@ -69,7 +70,8 @@ static uint64_t seed = 1;
 static unsigned long cases;
 static unsigned long differences;
 static unsigned long hits[SERVICES][REFUSALS];
-static unsigned long accepted_contacts[13], accepted_outputs[9], accepted_width[9], with_constant;
+static unsigned long accepted_contacts[13], accepted_outputs[9], accepted_width[9], accepted_spare[13], spare_place[12];
+static unsigned long with_constant, all_constant, eleven_spare_of_12;
 static unsigned long sheets[SHEET_SIZES];
 static struct demands demands;
 static char where[160]; /* what is being done, for the message after a fault */
@@ -176,8 +178,8 @@ static void report(const struct call *call, const struct answer *answers, const 
     stop_after_many();
 }
 
-/* Returns whether both sides answer, and the same. */
-static bool compare(const struct call *call)
+/* Returns the reference's number. */
+static uint32_t compare(const struct call *call)
 {
     struct answer answers[SIDES];
     enum place places[STRINGS];
@@ -201,7 +203,21 @@ static bool compare(const struct call *call)
     uint32_t refusal = answers[REFERENCE].number[0];
     if (what == NULL && refusal < REFUSALS)
         hits[call->service][refusal]++;
-    return what == NULL && refusal == 0;
+    return refusal;
+}
+
+/* A case whose number is known beforehand. */
+static void expect(const struct call *call, uint32_t number)
+{
+    uint32_t given = compare(call);
+    if (given == number)
+        return;
+    printf("difference in case %lu, seed %" PRIu64 ", %s: the reference gives %" PRIu32 ", not %" PRIu32 "\n", cases, seed,
+           service_names[call->service], given, number);
+    for (unsigned k = 0; k < string_counts[call->service]; k++)
+        print_string(call, k);
+    differences++;
+    stop_after_many();
 }
 
 /* ---- Strings for a call. ---- */
@@ -237,25 +253,33 @@ static void lend_buffer(struct call *call, unsigned k, size_t need)
     lend_noise(call, k, need, length);
 }
 
+static bool is_constant(const struct diagram *diagram, unsigned output)
+{
+    unsigned node = diagram->output[output];
+    unsigned level = 0;
+    while (level < diagram->contacts && diagram->edge[level][node][0] == diagram->edge[level][node][1])
+        node = diagram->edge[level++][node][0];
+    return level == diagram->contacts;
+}
+
 static void note_accepted(const struct diagram *diagram)
 {
-    unsigned widest = 2;
-    for (unsigned level = 0; level < diagram->contacts; level++)
+    unsigned widest = 2, spare = 0, constants = 0;
+    for (unsigned level = 0; level < diagram->contacts; level++) {
         if (diagram->width[level] > widest)
             widest = diagram->width[level];
+        spare += is_spare(diagram, level);
+        spare_place[level] += is_spare(diagram, level);
+    }
+    for (unsigned j = 0; j < diagram->outputs; j++)
+        constants += is_constant(diagram, j);
     accepted_contacts[diagram->contacts]++;
     accepted_outputs[diagram->outputs]++;
     accepted_width[widest]++;
-    for (unsigned j = 0; j < diagram->outputs; j++) {
-        unsigned node = diagram->output[j];
-        unsigned level = 0;
-        while (level < diagram->contacts && diagram->edge[level][node][0] == diagram->edge[level][node][1])
-            node = diagram->edge[level++][node][0];
-        if (level == diagram->contacts) {
-            with_constant++;
-            return;
-        }
-    }
+    accepted_spare[spare]++;
+    with_constant += constants > 0;
+    all_constant += constants == diagram->outputs;
+    eleven_spare_of_12 += diagram->contacts == 12 && spare == 11;
 }
 
 /* A diagram of any size; large ones of 9 to 12 contacts are drawn less often. */
@@ -413,30 +437,129 @@ static void compare_sizes(void)
             struct call call = {.service = SHEET};
             give(&call, 0, &netlist);
             lend_noise(&call, 1, need, k == 0 ? need : k == 1 ? need - 1 : need + 1 + roll(&dice, 40));
-            sheets[i] += compare(&call);
+            sheets[i] += compare(&call) == 0;
         }
     }
 }
 
-/* Every line of a small board at both values. */
-static void probe_all_lines(void)
+/* ---- Every service on one board, with buffers that are as long as needed and one byte short. ---- */
+
+static void services_but_probe(const struct file *table, const struct file *netlist)
 {
-    static struct file table, netlist, hold;
-    struct diagram diagram;
-    random_diagram(&dice, 1 + roll(&dice, 5), 1 + roll(&dice, 4), &diagram);
-    table.length = table_of(&diagram, table.bytes);
-    netlist.length = ref_build(table.bytes, table.length, netlist.bytes, FILE_ROOM).length;
-    unsigned lines = lines_of(&netlist);
-    for (unsigned line = 2; line < lines; line++)
-        for (unsigned value = 0; value < 2; value++) {
+    static struct file rails, holds;
+    unsigned contacts = contacts_of(netlist), lines = lines_of(netlist);
+    size_t pairs = 2 * (size_t)outputs_of(netlist), text = sheet_length(netlist);
+    struct call check = {.service = CHECK}, read_off = {.service = READ_OFF, .input = roll(&dice, 1u << contacts)};
+    give(&check, 0, table);
+    expect(&check, 0);
+    give(&read_off, 0, table);
+    expect(&read_off, 0);
+    random_rails(&dice, contacts, &rails);
+    random_holds(&dice, lines, roll(&dice, 3), &holds);
+    for (unsigned missing = 0; missing < 2; missing++) {
+        struct call build = {.service = BUILD}, run = {.service = RUN}, sheet = {.service = SHEET};
+        give(&build, 0, table);
+        lend_noise(&build, 1, netlist->length, netlist->length - missing);
+        expect(&build, missing ? 9 : 0);
+        give(&run, 0, netlist);
+        give(&run, 1, &rails);
+        give(&run, 2, &holds);
+        lend_noise(&run, 3, lines, lines - missing);
+        lend_noise(&run, 4, pairs, pairs);
+        expect(&run, missing ? 9 : 0);
+        give(&sheet, 0, netlist);
+        lend_noise(&sheet, 1, text, text - missing);
+        expect(&sheet, missing ? 9 : 0);
+    }
+}
+
+/* Every line at both values. A spare contact's rail, which nothing reads, gives 15, whatever the buffer. */
+static void probe_all_lines(const struct diagram *diagram, const struct file *table, const struct file *netlist)
+{
+    static struct file hold;
+    unsigned lines = lines_of(netlist);
+    size_t need = netlist->length + lines;
+    for (unsigned line = 2; line < lines; line++) {
+        unsigned contact = line / 2 - 1;
+        bool unread = contact < diagram->contacts && is_spare(diagram, contact);
+        for (unsigned k = 0; k < 4; k++) {
+            unsigned value = k / 2, missing = k % 2;
             struct call call = {.service = PROBE};
             hold.length = 0;
             add_hold(&hold, line, value);
-            give(&call, 0, &table);
+            give(&call, 0, table);
             give(&call, 1, &hold);
-            lend_buffer(&call, 2, netlist.length + lines);
-            compare(&call);
+            lend_noise(&call, 2, need, need - missing);
+            expect(&call, unread ? 15 : missing ? 9 : 0);
         }
+    }
+}
+
+static void compare_board(const struct diagram *diagram)
+{
+    static struct file table, netlist;
+    table.length = table_of(diagram, table.bytes);
+    netlist.length = ref_build(table.bytes, table.length, netlist.bytes, FILE_ROOM).length;
+    services_but_probe(&table, &netlist);
+    probe_all_lines(diagram, &table, &netlist);
+}
+
+static void compare_small_board(void)
+{
+    struct diagram diagram;
+    random_diagram(&dice, 1 + roll(&dice, 5), 1 + roll(&dice, 4), &diagram);
+    compare_board(&diagram);
+}
+
+/* ---- The demands, and boards with spare contacts in every place. ---- */
+
+static void check_demands(const struct diagram *diagram)
+{
+    snprintf(where, sizeof where, "board %lu, seed %" PRIu64, demands.boards, seed);
+    check_board(&dice, diagram, &demands);
+    stop_after_many();
+}
+
+static void compare_and_check(const struct diagram *diagram)
+{
+    compare_board(diagram);
+    check_demands(diagram);
+}
+
+/* The parity of so many contacts and its opposite; of no contacts the two constants. */
+static void parity_diagram(unsigned contacts, struct diagram *diagram)
+{
+    memset(diagram, 0, sizeof *diagram);
+    diagram->contacts = contacts;
+    diagram->outputs = 2;
+    diagram->output[1] = 1;
+    memset(diagram->width, 2, contacts + 1);
+    for (unsigned level = 0; level < contacts; level++)
+        diagram->edge[level][0][1] = diagram->edge[level][1][0] = 1;
+}
+
+/* Each of so many contacts as the only one that is used, and as the only spare one; then all of them spare, with outputs that are
+ * all 0, all 1, and both. */
+static void compare_spare_contacts(unsigned contacts)
+{
+    struct diagram diagram;
+    for (unsigned i = 0; i < contacts; i++) {
+        parity_diagram(1, &diagram);
+        while (diagram.contacts < contacts)
+            insert_spare_contact(&diagram, diagram.contacts <= i ? 0 : diagram.contacts);
+        compare_and_check(&diagram);
+        parity_diagram(contacts - 1, &diagram);
+        insert_spare_contact(&diagram, i);
+        compare_and_check(&diagram);
+    }
+    for (unsigned kind = 0; kind < 3; kind++) {
+        parity_diagram(0, &diagram);
+        diagram.output[0] = kind == 1;
+        diagram.output[1] = kind > 0;
+        while (diagram.contacts < contacts)
+            insert_spare_contact(&diagram, 0);
+        compare_and_check(&diagram);
+    }
 }
 
 static void check_some_board(void)
@@ -446,9 +569,7 @@ static void check_some_board(void)
         random_diagram(&dice, 1 + roll(&dice, 4), 1 + roll(&dice, 3), &diagram);
     else
         draw_diagram(&diagram);
-    snprintf(where, sizeof where, "board %lu, seed %" PRIu64, demands.boards, seed);
-    check_board(&dice, &diagram, &demands);
-    stop_after_many();
+    check_demands(&diagram);
 }
 
 static void random_case(void)
@@ -503,7 +624,7 @@ static bool print_counts(const char *what, const unsigned long *count, unsigned 
     return all;
 }
 
-/* How often both sides gave the same sheet of each size. */
+/* How often there was a sheet of each size. */
 static bool print_sheets(void)
 {
     bool all = true;
@@ -523,14 +644,19 @@ static int summary(void)
     all = print_counts("contacts", accepted_contacts, 1, 12) && all;
     all = print_counts("outputs", accepted_outputs, 1, 8) && all;
     all = print_counts("largest width", accepted_width, 2, 8) && all;
+    all = print_counts("spare contacts", accepted_spare, 0, 12) && all;
+    all = print_counts("place of a spare contact", spare_place, 0, 11) && all;
+    printf("accepted tables with a constant output: %lu, with constant outputs alone: %lu, with 11 of 12 contacts spare: %lu\n",
+           with_constant, all_constant, eleven_spare_of_12);
+    all = with_constant != 0 && all_constant != 0 && eleven_spare_of_12 != 0 && all;
     all = print_sheets() && all;
-    printf("accepted tables with a constant output: %lu\n", with_constant);
-    printf("boards checked by themselves: %lu, with %lu sheets, %lu runs, %lu sets of lines held one way, %lu probes\n",
-           demands.boards, demands.sheets, demands.inputs, demands.hold_sets, demands.probes);
-    if (!all || with_constant == 0)
+    printf("boards checked by themselves: %lu, with %lu sheets, %lu runs, %lu sets of lines held one way, %lu probes, %lu of them of "
+           "lines that nothing reads\n",
+           demands.boards, demands.sheets, demands.inputs, demands.hold_sets, demands.probes, demands.unread);
+    if (!all)
         printf("not every number that a service can give, and only those, was hit, or a size of table or sheet was missed\n");
     printf("%lu differences\n", differences + demands.failures);
-    return all && with_constant != 0 && differences + demands.failures == 0 ? 0 : 1;
+    return all && differences + demands.failures == 0 ? 0 : 1;
 }
 
 /* ---- The program. ---- */
@@ -579,12 +705,15 @@ int main(int argc, char **argv)
         for (unsigned k = 0; k < STRINGS; k++)
             open_lent(&lent[side][k]);
     watch_faults();
+    for (unsigned contacts = 1; contacts <= 12; contacts++)
+        compare_spare_contacts(contacts);
+    count += cases; /* random ones, besides these */
     for (uint64_t i = 0; cases < count; i++) {
         random_case();
         if (i % 20000 == 0)
             compare_sizes();
-        if (i % 200 == 0)
-            probe_all_lines();
+        if (i % 400 == 0)
+            compare_small_board();
         if (i % 50 == 0)
             check_some_board();
     }

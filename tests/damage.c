@@ -105,7 +105,7 @@ static void add_field(struct dice *dice, struct file *file, size_t at)
     set_two_bytes(file->bytes + at + 1, length);
 }
 
-/* ---- Damage to a diagram: questions 5 to 8. ---- */
+/* ---- Damage to a diagram: questions 5 to 7. ---- */
 
 static void name_missing_node(struct dice *dice, struct diagram *d)
 {
@@ -168,23 +168,6 @@ static void spoil_numbering(struct dice *dice, struct diagram *d)
         swap_numbers(dice, d, level);
     else
         add_unmentioned_node(dice, d, level);
-}
-
-/* A level that leads each node straight on. */
-static void insert_idle_level(struct dice *dice, struct diagram *d)
-{
-    if (d->contacts == 12)
-        return;
-    unsigned at = roll(dice, d->contacts + 1);
-    for (unsigned level = d->contacts++; level > at; level--) {
-        memcpy(d->edge[level], d->edge[level - 1], sizeof d->edge[level]);
-        d->width[level + 1] = d->width[level];
-    }
-    d->width[at + 1] = d->width[at];
-    d->width[d->contacts] = 2;
-    for (unsigned u = 0; u < d->width[at]; u++)
-        d->edge[at][u][0] = d->edge[at][u][1] = (uint8_t)u;
-    make_canonical(d);
 }
 
 /* ---- Damage to a table's bytes: questions 1 to 4. ---- */
@@ -283,7 +266,6 @@ static void spoil_levels(struct dice *dice, struct file *file, unsigned contacts
 static void damage_at(struct dice *dice, unsigned question, struct diagram *d, struct file *file)
 {
     switch (question) {
-    case 8: insert_idle_level(dice, d); break;
     case 7: spoil_numbering(dice, d); break;
     case 6: make_twins(dice, d); break;
     case 5: name_missing_node(dice, d); break;
@@ -297,12 +279,12 @@ static void damage_at(struct dice *dice, unsigned question, struct diagram *d, s
 void damaged_table(struct dice *dice, const struct diagram *good, struct file *file)
 {
     struct diagram d = *good;
-    unsigned aims = 1u << (1 + roll(dice, 8));
+    unsigned aims = 1u << (1 + roll(dice, 7));
     if (chance(dice, 35))
-        aims |= 1u << (1 + roll(dice, 8));
+        aims |= 1u << (1 + roll(dice, 7));
     if (chance(dice, 10))
-        aims |= 1u << (1 + roll(dice, 8));
-    for (unsigned question = 8; question > 4; question--)
+        aims |= 1u << (1 + roll(dice, 7));
+    for (unsigned question = 7; question > 4; question--)
         if (aims >> question & 1)
             damage_at(dice, question, &d, file);
     file->length = table_of(&d, file->bytes);

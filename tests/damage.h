@@ -11,7 +11,7 @@ struct file {
     uint8_t bytes[FILE_ROOM];
 };
 
-/* A table damaged at one to three of the questions 1 to 8. */
+/* A table damaged at one to three of the questions 1 to 7. */
 void damaged_table(struct dice *dice, const struct diagram *good, struct file *file);
 
 /* Sets up to three bytes anew. */

@@ -26,6 +26,7 @@ static struct file holds;
 static uint8_t lines[PILGODUR_LINES_MAX];
 static uint8_t pairs[PILGODUR_PAIRS_MAX];
 static uint8_t probed_bytes[PILGODUR_FILE_MAX + PILGODUR_LINES_MAX];
+static bool is_read[PILGODUR_LINES_MAX]; /* by some gate or output of the netlist */
 
 __attribute__((format(printf, 2, 3)))
 static bool fail(const struct board *board, const char *what, ...)
@@ -111,6 +112,42 @@ static bool build_board(struct board *board)
         board->lines != 2 + 2 * d->contacts + board->checked.gates || contacts_of(&netlist) != d->contacts)
         return fail(board, "the netlist's counts are not those that check returns");
     return check_formulas(board);
+}
+
+/* ---- What is read. ---- */
+
+static void find_what_is_read(const struct board *board)
+{
+    const uint8_t *gate = netlist.bytes + 7;
+    memset(is_read, 0, sizeof is_read);
+    for (unsigned g = 0; g < board->checked.gates; g++, gate += 5)
+        is_read[two_bytes(gate + 1)] = is_read[two_bytes(gate + 3)] = true;
+    const uint8_t *output = gate + 3;
+    for (unsigned k = 0; k < 2 * board->diagram->outputs; k++)
+        is_read[two_bytes(output + 2 * k)] = true;
+}
+
+/* Whether some output has another value with the contact closed than with it open. */
+static bool is_used(const struct diagram *diagram, unsigned contact)
+{
+    for (uint32_t input = 0; input < 1u << diagram->contacts; input++)
+        if (word_at(diagram, input) != word_at(diagram, input ^ 1u << contact))
+            return true;
+    return false;
+}
+
+static bool check_what_is_read(const struct board *board)
+{
+    unsigned first = 2 + 2 * board->diagram->contacts;
+    find_what_is_read(board);
+    for (unsigned line = 2; line < first; line++)
+        if (is_read[line] != is_used(board->diagram, line / 2 - 1))
+            return fail(board, is_read[line] ? "rail %u is read, and no output depends on its contact"
+                                             : "nothing reads rail %u, and an output depends on its contact", line);
+    for (unsigned line = first; line < board->lines; line++)
+        if (!is_read[line])
+            return fail(board, "nothing reads gate %u", line);
+    return true;
 }
 
 /* ---- Different tables, different netlists. ---- */
@@ -263,14 +300,31 @@ static bool check_hold_sets(struct dice *dice, const struct board *board)
 
 /* ---- Probe against runs at every input from 0 up. ---- */
 
-static bool check_found(const struct board *board, const pilgodur_probed *probed, uint32_t input, unsigned output, unsigned way)
+/* A pair is no code at an input, and was a code at every smaller one. */
+static bool check_seen(const struct board *board, const pilgodur_probed *probed, unsigned line, unsigned way, uint32_t input,
+                       unsigned output)
 {
+    if (!is_read[line])
+        return fail(board, "nothing reads line %u, and held at %u it shows at input %" PRIu32, line, way, input);
+    if (pairs[2 * output] != way)
+        return fail(board, "line %u held at %u shows the other value twice", line, way);
     if (probed->refusal != 0 || probed->input != input || probed->output != output || probed->way != way)
         return fail(board, "probe returns %" PRIu32 ", %" PRIu32 ", %" PRIu32 ", %" PRIu32 "; runs give input %" PRIu32
                     ", output %u, way %u", probed->refusal, probed->input, probed->output, probed->way, input, output, way);
     if (memcmp(probed_bytes, netlist.bytes, board->length) != 0 ||
         memcmp(probed_bytes + board->length, lines, board->lines) != 0)
         return fail(board, "probe's buffer is not the netlist with the line values of the run");
+    return true;
+}
+
+/* No input shows the line. */
+static bool check_unseen(const struct board *board, const pilgodur_probed *probed, unsigned line, unsigned way)
+{
+    if (is_read[line])
+        return fail(board, "line %u held at %u is unseen at every input", line, way);
+    if (probed->refusal != PILGODUR_REFUSAL_UNREAD)
+        return fail(board, "nothing reads line %u, and probe returns %" PRIu32, line, probed->refusal);
+    board->demands->unread++;
     return true;
 }
 
@@ -286,13 +340,12 @@ static bool check_probe(const struct board *board, unsigned line, unsigned way)
             return false;
         for (unsigned j = 0; j < board->diagram->outputs; j++) {
             if (pairs[2 * j] == pairs[2 * j + 1])
-                return pairs[2 * j] == way ? check_found(board, &probed, input, j, way)
-                                           : fail(board, "line %u held at %u shows the other value twice", line, way);
+                return check_seen(board, &probed, line, way, input, j);
             if (!right_code(board, j, input))
                 return fail(board, "line %u held at %u: a wrong code at input %" PRIu32, line, way, input);
         }
     }
-    return fail(board, "line %u held at %u is unseen at every input", line, way);
+    return check_unseen(board, &probed, line, way);
 }
 
 static bool check_probes(const struct board *board)
@@ -310,7 +363,7 @@ void check_board(struct dice *dice, const struct diagram *diagram, struct demand
 {
     struct board board = {.diagram = diagram, .demands = demands};
     demands->boards++;
-    if (build_board(&board) && check_new_netlist(&board) && check_sheet(&board) && check_all_permits(dice, &board) &&
-        check_hold_sets(dice, &board))
+    if (build_board(&board) && check_what_is_read(&board) && check_new_netlist(&board) && check_sheet(&board) &&
+        check_all_permits(dice, &board) && check_hold_sets(dice, &board))
         check_probes(&board);
 }

@@ -35,12 +35,12 @@ refused check hex:0100010102000100
 refused check hex:01000101020001000300020002
 refused check hex:0100010202000100030002000103000400010001
 refused check hex:0100010202000100030002010003000400010100
-refused check hex:010001020200010003000200000300020001
 refused read-off "$selector.table" 8
 refused run "$selector.table" 0
 refused run hex:01000101040005020002000305000400040003 0
 refused run "$selector.netlist" hex:00
 refused probe "$selector.table" 17=0
+refused probe "$root/examples/spare.table" 2=0
 sed '/^| 9 /d' header >asked # the program lends buffers that are long enough
 same "the program's questions are the header's" asked program
 
@@ -80,22 +80,33 @@ gates() {
 listed() {
     "$bench" list "hex:$1" | sed -n 's/^ *\([0-9]*\) *\(AND\|OR\) *\([0-9]*\) *\([0-9]*\)$/\1 \2 \3 \4/p'
 }
-section 'The selector' | sed '/Rails:/,$d' | bytes >table
-section 'The selector' | sed '1,/netlist file/d' | bytes >netlist
-"$bench" build "hex:$(cat table)" >said
-sed 's/^/hex:/; s/$/\n/' netlist >page
-same "the selector's netlist in docs/RULES.md" said page
-section 'The selector' | gates >page
-listed "$(cat table)" >said
-same "the selector's gates in docs/RULES.md" said page
+# table_of SECTION WORD: takes the table that stands in a section before a word.
+table_of() {
+    section "$1" | sed "/$2/,\$d" | bytes >table
+}
+# same_netlist SECTION, same_gates SECTION: what the section says of its table's netlist is what the program builds.
+same_netlist() {
+    section "$1" | sed '1,/netlist file/d' | bytes | sed 's/^/hex:/; s/$/\n/' >page
+    "$bench" build "hex:$(cat table)" >said
+    same "the netlist under '$1' in docs/RULES.md" said page
+}
+same_gates() {
+    section "$1" | gates >page
+    listed "$(cat table)" >said
+    same "the gates under '$1' in docs/RULES.md" said page
+}
+table_of 'The selector' 'Rails:'
+same_netlist 'The selector'
+same_gates 'The selector'
 section 'The selector' | sed '1,/^Its sheet/d' | sed -n 's/^    //p' >page
 "$bench" list "hex:$(cat table)" >said
 same "the selector's sheet in docs/RULES.md" said page
-section 'A second board' | sed '/matrices/,$d' | bytes >table
-section 'A second board' | gates >page
-listed "$(cat table)" >said
-same "the second board's gates in docs/RULES.md" said page
+table_of 'A second board' 'matrices'
+same_gates 'A second board'
 [ "$(wc -l <page)" -eq 42 ] || failures=$((failures + 1))
+table_of 'A third board' 'matrices'
+same_netlist 'A third board'
+same_gates 'A third board'
 
 echo "docs: $failures differences"
 [ "$failures" -eq 0 ]

@@ -33,10 +33,12 @@ read_elsewhere() {
     fi
 }
 
-for board in selector single lift widest; do
+for board in selector single lift widest spare; do
     "$bench" build "$root/examples/$board.table" -o $board.netlist || complain "build $board"
     cp "$root/examples/$board.table" $board.table
 done
+# Contacts that are all spare, and constant outputs.
+"$bench" build hex:0100010202000200010300040000010103000400000101 -o constant.netlist || complain "build constant"
 # Every constant and rail as a source and as an output, and gates that have one source twice.
 "$bench" list hex:0100010204001400000100020100000004000005000501000600060500080000000100080003 >/dev/null || complain "constants"
 printf '\001\000\001\002\004\000\024\000\000\001\000\002\001\000\000\000\004\000\000\005\000\005\001\000\006\000\006' >constants.netlist

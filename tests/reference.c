@@ -220,20 +220,6 @@ static bool numbered_by_first_mention(const struct diagram *diagram)
     return true;
 }
 
-/* Question 8. */
-static bool has_choice(const struct node *level)
-{
-    return level != NULL && (level->edge[0] != level->edge[1] || has_choice(level->next));
-}
-
-static bool every_level_has_choice(const struct diagram *diagram)
-{
-    for (unsigned l = 0; l < diagram->contacts; l++)
-        if (!has_choice(diagram->level[l]))
-            return false;
-    return true;
-}
-
 /* The table's questions; the diagram is there if they all get a yes. */
 static uint32_t read_table(struct pool *pool, const uint8_t *table, size_t length, struct diagram *diagram)
 {
@@ -254,8 +240,6 @@ static uint32_t read_table(struct pool *pool, const uint8_t *table, size_t lengt
         return 6;
     if (!numbered_by_first_mention(diagram))
         return 7;
-    if (!every_level_has_choice(diagram))
-        return 8;
     return 0;
 }
 
@@ -475,8 +459,9 @@ enum { UNKNOWN = -1 };
 struct wire {
     bool is_gate;
     unsigned kind, left, right;
-    int held;  /* UNKNOWN if it is not */
-    int value; /* UNKNOWN until it is needed */
+    bool is_read; /* by some gate or output; mark_read tells */
+    int held;     /* UNKNOWN if it is not */
+    int value;    /* UNKNOWN until it is needed */
 };
 
 struct netlist {
@@ -582,6 +567,18 @@ static bool hold_lines(struct netlist *netlist, const uint8_t *holds, size_t len
     return true;
 }
 
+/* Each gate marks its sources, each output its two lines. */
+static void mark_read(struct netlist *netlist)
+{
+    for (unsigned line = 0; line < netlist->lines; line++) {
+        const struct wire *w = &netlist->wire[line];
+        if (w->is_gate)
+            netlist->wire[w->left].is_read = netlist->wire[w->right].is_read = true;
+    }
+    for (unsigned j = 0; j < netlist->outputs; j++)
+        netlist->wire[netlist->pair[j][0]].is_read = netlist->wire[netlist->pair[j][1]].is_read = true;
+}
+
 static void write_lines(struct netlist *netlist, uint8_t *lines)
 {
     for (unsigned line = 0; line < netlist->lines; line++)
@@ -614,7 +611,7 @@ static bool betrayed(struct netlist *netlist, uint32_t *output, uint32_t *way)
     return false;
 }
 
-/* Tries every code input from 0 up and leaves the rails of the first that betrays. */
+/* Tries every code input from 0 up and leaves the rails of the first that betrays. There is one for a line that is read. */
 static void search(struct netlist *netlist, pilgodur_probed *probed)
 {
     for (uint32_t input = 0; input >> netlist->contacts == 0; input++) {
@@ -756,8 +753,11 @@ static pilgodur_probed probe(struct pool *pool, const struct diagram *diagram, c
     struct netlist netlist = {0};
     if (read_netlist(pool, file, length, &netlist) != 0)
         abort();
+    mark_read(&netlist);
     if (hold_len != 3 || !hold_lines(&netlist, hold, hold_len)) {
         answer.refusal = 14;
+    } else if (!netlist.wire[two_bytes(hold)].is_read) {
+        answer.refusal = 15;
     } else if (buffer_len < length + netlist.lines) {
         answer.refusal = 9;
     } else {

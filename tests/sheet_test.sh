@@ -80,6 +80,11 @@ same 'row one' "$(sed -n 2p out)" '    8 AND     3     5'
 same 'the last row' "$(sed -n '$p' out)" '    0 OUT    16    14'
 same 'the bytes of the selector' "$(wc -c <out)" 242
 
+# A board whose contacts are all spare: no gates, and outputs that are constants.
+printf '\001\000\001\002\004\000\000\005\000\010\000\000\000\001\000\001\000\000' >spare
+printf ' LINE KIN     A     B\n    0 OUT     0     1\n    1 OUT     1     0\n' >spare.sheet
+expect 0 spare.sheet '' 'sheet <spare'
+
 # About the end of a page, with outputs on a page of their own; no gates; the largest, with lines of five digits.
 size 1 48 1 '1'
 size 12 41 8 '1'

@@ -79,20 +79,35 @@ void make_canonical(struct diagram *diagram)
         renumber_level(diagram, level);
 }
 
-static bool level_has_choice(const struct diagram *diagram, unsigned level)
+/* ---- Spare contacts. ---- */
+
+bool is_spare(const struct diagram *diagram, unsigned contact)
 {
-    for (unsigned u = 0; u < diagram->width[level]; u++)
-        if (diagram->edge[level][u][0] != diagram->edge[level][u][1])
+    for (unsigned u = 0; u < diagram->width[contact]; u++)
+        if (diagram->edge[contact][u][0] != diagram->edge[contact][u][1])
+            return false;
+    return true;
+}
+
+static bool has_spare_contact(const struct diagram *diagram)
+{
+    for (unsigned contact = 0; contact < diagram->contacts; contact++)
+        if (is_spare(diagram, contact))
             return true;
     return false;
 }
 
-static bool every_level_has_choice(const struct diagram *diagram)
+/* The new level leads each node straight on. */
+void insert_spare_contact(struct diagram *diagram, unsigned contact)
 {
-    for (unsigned level = 0; level < diagram->contacts; level++)
-        if (!level_has_choice(diagram, level))
-            return false;
-    return true;
+    for (unsigned level = diagram->contacts++; level > contact; level--) {
+        memcpy(diagram->edge[level], diagram->edge[level - 1], sizeof diagram->edge[level]);
+        diagram->width[level + 1] = diagram->width[level];
+    }
+    diagram->width[contact + 1] = diagram->width[contact];
+    for (unsigned u = 0; u < diagram->width[contact]; u++)
+        diagram->edge[contact][u][0] = diagram->edge[contact][u][1] = (uint8_t)u;
+    make_canonical(diagram);
 }
 
 /* ---- Full diagrams: every node is mentioned and no two are alike, so the widths stay as drawn. ---- */
@@ -123,7 +138,7 @@ static void fill_level(struct dice *dice, struct diagram *diagram, unsigned leve
 {
     do
         cover(dice, &diagram->edge[level][0][0], 2u * diagram->width[level], diagram->width[level + 1]);
-    while (level_has_twins(diagram, level) || !level_has_choice(diagram, level));
+    while (level_has_twins(diagram, level) || is_spare(diagram, level));
 }
 
 static unsigned smaller(unsigned a, unsigned b)
@@ -158,11 +173,16 @@ static void full_diagram(struct dice *dice, struct diagram *diagram, unsigned le
     make_canonical(diagram);
 }
 
-void widest_diagram(struct dice *dice, unsigned contacts, struct diagram *diagram)
+static void set_size(struct diagram *diagram, unsigned contacts, unsigned outputs)
 {
     memset(diagram, 0, sizeof *diagram);
     diagram->contacts = contacts;
-    diagram->outputs = 8;
+    diagram->outputs = outputs;
+}
+
+void widest_diagram(struct dice *dice, unsigned contacts, struct diagram *diagram)
+{
+    set_size(diagram, contacts, 8);
     full_diagram(dice, diagram, 8, 8);
 }
 
@@ -212,7 +232,7 @@ static void loose_level(struct dice *dice, struct diagram *diagram, unsigned lev
     }
 }
 
-static bool loose_diagram(struct dice *dice, struct diagram *diagram)
+static void loose_diagram(struct dice *dice, struct diagram *diagram)
 {
     unsigned equal = roll(dice, 90);
     unsigned most = 2 + roll(dice, 7);
@@ -225,20 +245,43 @@ static bool loose_diagram(struct dice *dice, struct diagram *diagram)
     for (unsigned j = 0; j < diagram->outputs; j++)
         diagram->output[j] = (uint8_t)roll(dice, diagram->width[0]);
     make_canonical(diagram);
-    return every_level_has_choice(diagram);
+}
+
+/* ---- Diagrams of either kind, and with spare contacts. ---- */
+
+void busy_diagram(struct dice *dice, unsigned contacts, unsigned outputs, struct diagram *diagram)
+{
+    set_size(diagram, contacts, outputs);
+    if (chance(dice, 60))
+        for (unsigned i = 0; i < TRIES; i++) {
+            loose_diagram(dice, diagram);
+            if (!has_spare_contact(diagram))
+                return;
+        }
+    unsigned least = 1 + roll(dice, 8);
+    full_diagram(dice, diagram, least, least + roll(dice, 9 - least));
+}
+
+/* A busy diagram of fewer contacts, often of one or none, among spare ones. */
+static void part_spare_diagram(struct dice *dice, unsigned contacts, unsigned outputs, struct diagram *diagram)
+{
+    unsigned busy = chance(dice, 15) ? 0 : 1 + roll(dice, 1 + roll(dice, contacts));
+    busy_diagram(dice, busy, outputs, diagram);
+    while (diagram->contacts < contacts)
+        insert_spare_contact(diagram, roll(dice, diagram->contacts + 1));
 }
 
 void random_diagram(struct dice *dice, unsigned contacts, unsigned outputs, struct diagram *diagram)
 {
-    memset(diagram, 0, sizeof *diagram);
-    diagram->contacts = contacts;
-    diagram->outputs = outputs;
-    if (chance(dice, 60))
-        for (unsigned i = 0; i < TRIES; i++)
-            if (loose_diagram(dice, diagram))
-                return;
-    unsigned least = 1 + roll(dice, 8);
-    full_diagram(dice, diagram, least, least + roll(dice, 9 - least));
+    unsigned kind = roll(dice, 100);
+    if (kind < 55) {
+        busy_diagram(dice, contacts, outputs, diagram);
+    } else if (kind < 70) {
+        set_size(diagram, contacts, outputs);
+        loose_diagram(dice, diagram);
+    } else {
+        part_spare_diagram(dice, contacts, outputs, diagram);
+    }
 }
 
 /* ---- Tables and values. ---- */

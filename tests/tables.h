@@ -26,8 +26,18 @@ enum { TABLE_MAX = 4 + (3 + 8) + 12 * (3 + 16) };
 /* Merges nodes with the same edges, drops those that are not mentioned and numbers the others by first mention. */
 void make_canonical(struct diagram *diagram);
 
-/* A diagram of the given size whose table is accepted; its shape is drawn at random. */
+/* Whether a contact of a canonical diagram is spare: no output depends on it, so no node of its level has two different edges. */
+bool is_spare(const struct diagram *diagram, unsigned contact);
+
+/* Puts in a spare contact with this number; the contacts from it on move up by one. */
+void insert_spare_contact(struct diagram *diagram, unsigned contact);
+
+/* A diagram of the given size whose table is accepted; its shape is drawn at random. More than half of them have no spare contact; in
+ * the others any contact may be spare. */
 void random_diagram(struct dice *dice, unsigned contacts, unsigned outputs, struct diagram *diagram);
+
+/* The same with no contact spare. Of 0 contacts, which no table has, the outputs are constants. */
+void busy_diagram(struct dice *dice, unsigned contacts, unsigned outputs, struct diagram *diagram);
 
 /* The same for eight outputs with every level as wide as it can be: 8 nodes, and 4 in the last level. */
 void widest_diagram(struct dice *dice, unsigned contacts, struct diagram *diagram);

@@ -131,18 +131,20 @@ static bool overlaps(void)
 
 int main(int argc, char **argv)
 {
+    static const char *const verdict[] = {"DIFFERENT ANSWERS", "the same answers"};
     struct dice dice = {1};
-    unsigned answered = 0;
+    unsigned accepted = 0, unread = 0;
     if (argc > 1)
         rounds = (unsigned)strtoul(argv[1], NULL, 10);
     for (unsigned i = 0; i < BOARDS; i++) {
         draw_board(&dice, &boards[i]);
         ask(&boards[i], &expected[i]);
-        answered += expected[i].probed.refusal == 0;
+        accepted += expected[i].checked.refusal == 0;
+        unread += expected[i].probed.refusal == PILGODUR_REFUSAL_UNREAD;
     }
     bool threads_agree = run_threads();
     bool overlaps_agree = overlaps();
-    printf("threads: %d threads, %d boards (%u accepted), %u rounds: %s; overlapping strings: %s\n", THREADS, BOARDS, answered, rounds,
-           threads_agree ? "the same answers" : "DIFFERENT ANSWERS", overlaps_agree ? "the same answers" : "DIFFERENT ANSWERS");
-    return threads_agree && overlaps_agree && answered > BOARDS / 2 && answered < BOARDS ? 0 : 1;
+    printf("threads: %d threads, %d boards (%u accepted, %u with a spare rail held), %u rounds: %s; overlapping strings: %s\n",
+           THREADS, BOARDS, accepted, unread, rounds, verdict[threads_agree], verdict[overlaps_agree]);
+    return threads_agree && overlaps_agree && accepted > BOARDS / 2 && accepted < BOARDS && unread > 0 ? 0 : 1;
 }

@@ -1,4 +1,4 @@
--- Questions 5 to 8 as the code asks them, over the arrays of a diagram.
+-- Questions 5 to 7 as the code asks them, over the arrays of a diagram.
 use Prim.Native.Nat.{ℕ, zero, suc, _+_, _*_, _-_, _≤_, _<_}
 use native.Mathlib.Nat.{zero-add}
 use native.Mathlib.Numerals.{add-one}
@@ -9,16 +9,15 @@ use mathlib.Core.List.{List}
 use borrow.Author.Tests.{lt-ltb}
 use lib.Dec.{ltb}
 use lib.ListN.{length, getD}
-use Rattle.fields.specs.Bounded.{all, any}
+use Rattle.fields.specs.Bounded.{all}
 use Rattle.diagram.specs.declared.Diagram.{Diagram}
 use Rattle.diagram.specs.declared.sound.Range.the-variants.{Within, Outside}
 use Rattle.diagram.specs.declared.sound.Twins.the-variants.{Absent, Present}
 use Rattle.diagram.specs.declared.sound.Numbering.the-variants.{InTurn, OutOfTurn}
-use Rattle.diagram.specs.declared.sound.Branching.the-variants.{Throughout, Missing}
-use Rattle.diagram.specs.Inner.Bytes.{isBelow, isInTurn, isUnlike, isFork}
+use Rattle.diagram.specs.Inner.Bytes.{isBelow, isInTurn, isUnlike}
 use Rattle.diagram.specs.Diagram.{width, edgeAt, root}
 use Rattle.diagram.specs.Inner.Lent.{Fit, HasLevels, HasOutputs}
-use Rattle.diagram.specs.Questions.{Sized, inRange, distinct, mention, mentions, inTurn, numbered, branching, rangeOf, twinsOf, numberingOf, branchingOf}
+use Rattle.diagram.specs.Questions.{Sized, inRange, distinct, mention, mentions, inTurn, numbered, rangeOf, twinsOf, numberingOf}
 
 all-agree : (n : ℕ) (p q : ℕ → Bool) → ((i : ℕ) → i < n → p i ≡ q i) → all n p ≡ all n q
 unfolding all
@@ -32,20 +31,6 @@ width-is d l h = simp (lt-ltb _ _ h)
 -- The arrays of a diagram within the limits can be lent.
 pub fit : (d : Diagram) → Sized d → length (d .widths) ≡ 12 → length (d .edges) ≡ 192 → Fit (d .contacts) (d .widths) (d .edges)
 fit d s w e = record { contacts = s .contacts; widths = w; edges = e; nodes = λ l h. rw (width-is d l h) (s .widths l h .1) }
-
--- Question 8 of one level.
-abbrev pub forksAt : List ℕ → List ℕ → ℕ → Bool
-forksAt widths edges l = any (getD widths l 0) (isFork edges (l * 16))
-
-branching-is : (d : Diagram) → all (d .contacts) (forksAt (d .widths) (d .edges)) ≡ branching d
-unfolding branching edgeAt
-branching-is d = all-agree (d .contacts) _ _ (λ l h. ap (λ (w : ℕ). any w (isFork (d .edges) (l * 16))) (width-is d l h))
-
-pub branching-by : {n : ℕ} {ws es : List ℕ} (d : Diagram) → HasLevels d n ws es → (b : Bool) → b ≡ all n (forksAt ws es) →
-    cond b Throughout Missing ≡ branchingOf d
-branching-by d h b e =
-    let f : b ≡ all (d .contacts) (forksAt (d .widths) (d .edges)) = rw (h .contacts, h .widths, h .edges) e in
-    ap (λ (t : Bool). cond t Throughout Missing) (f ∙ branching-is d)
 
 -- Question 6 of one level.
 abbrev pub unlikeAt : List ℕ → List ℕ → ℕ → Bool

@@ -1,4 +1,4 @@
--- Where paths lead, and what questions 5, 6 and 8 say of nodes.
+-- Where paths lead, and what questions 5 and 6 say of nodes.
 use Prim.Native.Nat.{ℕ, zero, suc, _+_, _*_, _/_, _%_, _≤_, _<_}
 use native.Mathlib.Nat.{zero-add, add-zero, suc-add, add-comm}
 use native.Mathlib.Numerals.{add-one}
@@ -8,10 +8,10 @@ use mathlib.Core.Bool.{Bool, true, false, not, _&&_}
 use borrow.Author.Tests.{ltb-true, eqb-true, eqb-false, not-true, le-ltb}
 use lib.Dec.{ltb, eqb}
 use Rattle.fields.specs.Bounded.{all}
-use Rattle.fields.proofs.Bounded.{all-at, any-found}
+use Rattle.fields.proofs.Bounded.{all-at}
 use Rattle.diagram.specs.declared.Diagram.{Diagram}
 use Rattle.diagram.specs.Diagram.{width, edgeAt, bit, edge, root, Input, path, valueAt}
-use Rattle.diagram.specs.Questions.{inRange, distinct, branching}
+use Rattle.diagram.specs.Questions.{inRange, distinct}
 use Rattle.diagram.proofs.Inputs.{join, join-below, join-from}
 
 pub both : (a b : Bool) → (a && b) ≡ true → (a ≡ true) × (b ≡ true)
@@ -118,11 +118,6 @@ module _ (d : Diagram) (differing : distinct d ≡ true) where
       ne-cases u v ((b : Bool) × (edge d l u b ≡ edge d l v b → ⊥)) ne (below l u v h hv)
       (λ lt. let (b, other) = below l v u h hu lt in (b, λ p. other (sym p)))
 
--- A level has a node with different edges. Question 8: so has each.
+-- A level has a node with different edges.
 abbrev pub Branches : Diagram → ℕ → Type 0
 Branches d l = (u : ℕ) × (u < width d l) × (edge d l u false ≡ edge d l u true → ⊥)
-
-pub branches : (d : Diagram) → branching d ≡ true → (l : ℕ) → l < d .contacts → Branches d l
-unfolding branching
-branches d asked l h =
-    let (u, hu, e) = any-found _ _ (all-at _ _ asked l h) in (u, hu, eqb-false _ _ (not-true _ e))

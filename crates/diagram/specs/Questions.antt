@@ -1,10 +1,10 @@
--- Questions 5 to 8, about a decoded table.
+-- Questions 5 to 7, about a decoded table.
 use Prim.Native.Nat.{ℕ, zero, suc, _*_, _≤_, _<_, max}
 use mathlib.Core.Path.{_≡_}
 use mathlib.Core.Bool.{Bool, true, false, not, _&&_, cond}
 use lib.Dec.{leb, ltb, eqb}
 use lib.ListN.{length, getD}
-use Rattle.fields.specs.Bounded.{all, any}
+use Rattle.fields.specs.Bounded.{all}
 use Rattle.diagram.specs.declared.Diagram.{Diagram}
 use Rattle.diagram.specs.declared.sound.Range.{Range}
 use Rattle.diagram.specs.declared.sound.Range.the-variants.{Within, Outside}
@@ -12,8 +12,6 @@ use Rattle.diagram.specs.declared.sound.Twins.{Twins}
 use Rattle.diagram.specs.declared.sound.Twins.the-variants.{Absent, Present}
 use Rattle.diagram.specs.declared.sound.Numbering.{Numbering}
 use Rattle.diagram.specs.declared.sound.Numbering.the-variants.{InTurn, OutOfTurn}
-use Rattle.diagram.specs.declared.sound.Branching.{Branching}
-use Rattle.diagram.specs.declared.sound.Branching.the-variants.{Throughout, Missing}
 use Rattle.diagram.specs.Diagram.{width, edgeAt, edge, root}
 
 -- The limits: 1 to 12 contacts, 1 to 8 outputs, 1 to 8 nodes in a level.
@@ -65,10 +63,6 @@ inTurn f k w = all k (λ i. leb (f i) (brought f i)) && eqb (brought f k) w
 unfoldable pub numbered : Diagram → Bool
 numbered d = all (d .contacts) (λ l. inTurn (mention d l) (mentions d l) (width d l))
 
--- 8. Has every level a node whose edges differ?
-unfoldable pub branching : Diagram → Bool
-branching d = all (d .contacts) (λ l. any (width d l) (λ u. not (eqb (edge d l u false) (edge d l u true))))
-
 -- The answer to each.
 abbrev pub rangeOf : Diagram → Range
 rangeOf d = cond (inRange d) Within Outside
@@ -78,6 +72,3 @@ twinsOf d = cond (distinct d) Absent Present
 
 abbrev pub numberingOf : Diagram → Numbering
 numberingOf d = cond (numbered d) InTurn OutOfTurn
-
-abbrev pub branchingOf : Diagram → Branching
-branchingOf d = cond (branching d) Throughout Missing

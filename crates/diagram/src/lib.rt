@@ -1,13 +1,13 @@
-// Quasi-reduced decision diagrams with several outputs: questions 5 to 8 about one, and its outputs at an input.
+// Quasi-reduced decision diagrams with several outputs: questions 5 to 7 about one, and its outputs at an input.
 mod evaluate;
+mod fork;
 mod sound;
 
 pub use evaluate::word;
-pub use sound::Branching;
+pub use fork::forks;
 pub use sound::Numbering;
 pub use sound::Range;
 pub use sound::Twins;
-pub use sound::ask_branching;
 pub use sound::ask_numbering;
 pub use sound::ask_range;
 pub use sound::ask_twins;

@@ -1,12 +1,12 @@
-// Questions 5 to 8, about a diagram whose arrays are lent.
+// Questions 5 to 7, about a diagram whose arrays are lent.
 ghost use mathlib.Core.Path.{_≡_};
 ghost use mathlib.Core.Bool.{cond};
 ghost use Prim.Native.Nat.{_+_, _*_, _≤_, _<_};
 ghost use lib.Dec.{ltb};
 ghost use lib.ListN.{length, getD};
-ghost use Rattle.fields.specs.Bounded.{all, any};
-ghost use Rattle.diagram.specs.Inner.Bytes.{isBelow, isInTurn, isUnlike, isFork};
-ghost use Rattle.diagram.specs.Questions.{rangeOf, twinsOf, numberingOf, branchingOf};
+ghost use Rattle.fields.specs.Bounded.{all};
+ghost use Rattle.diagram.specs.Inner.Bytes.{isBelow, isInTurn, isUnlike};
+ghost use Rattle.diagram.specs.Questions.{rangeOf, twinsOf, numberingOf};
 ghost use Rattle.diagram.specs.Inner.Lent.{Fit, WithLevels, WithArrays};
 
 // Question 5's answer.
@@ -25,12 +25,6 @@ pub enum Twins {
 pub enum Numbering {
     InTurn,
     OutOfTurn,
-}
-
-// Question 8's answer.
-pub enum Branching {
-    Throughout,
-    Missing,
 }
 
 // The number of nodes of a level of n; level n has two.
@@ -158,30 +152,4 @@ pub fn ask_numbering<'a>(
         }
     }
     Numbering::InTurn
-}
-
-// Whether some of so many nodes, whose edges stand from a place on, has two different ones.
-fn forks(edges: &[u8], from: usize, nodes: usize) -> bool
-    requires { ⌜ from + 2 * nodes ≤ length (now edges) ⌝ }
-    ensures { λ r. ⌜ r ≡ any nodes (isFork (now (edges .entry)) from) ⌝ }
-{
-    for u in 0..nodes {
-        if edges[from + 2 * u] != edges[from + (2 * u + 1)] {
-            return true;
-        }
-    }
-    false
-}
-
-// Question 8: has every level a node whose edges differ?
-pub fn ask_branching<'a>(n: usize, widths: &'a [usize], edges: &'a [u8]) -> Branching
-    requires { ⌜ Fit n (now widths) (now edges) ⌝ }
-    ensures { λ r. ⌜ WithLevels n (now (widths .entry)) (now (edges .entry)) (λ d. r ≡ branchingOf d) ⌝ }
-{
-    for l in 0..n {
-        if !forks(edges, l * 16, widths[l]) {
-            return Branching::Missing;
-        }
-    }
-    Branching::Throughout
 }

@@ -15,10 +15,9 @@ use Rattle.diagram.specs.Diagram.{inputOf}
 use Rattle.table.proofs.Accepted.{accepted}
 use Rattle.diagram.proofs.Inputs.{inputNumber}
 use Rattle.diagram.proofs.Paths.{value-bit}
-use Rattle.diagram.proofs.Unique.{Reduced}
 use Rattle.netlist.specs.declared.Hold.{Hold}
 use Rattle.netlist.specs.declared.Pair.{Pair}
-use Rattle.netlist.specs.Netlist.{lineCount}
+use Rattle.netlist.specs.Netlist.{isRead}
 use Rattle.netlist.proofs.Tests.{Wired}
 use Rattle.rules.specs.Board.{boardOf, tableBoard}
 use Rattle.table.specs.Promises.{Accepted}
@@ -33,6 +32,7 @@ use Rattle.faults.specs.Promises.{Shows, ShowsRight}
 use Rattle.faults.proofs.HeldLines.{one-way-run, held-shows}
 use Rattle.fields.proofs.Least.{First, least-first}
 use Rattle.faults.proofs.NoUnseen.{no-unseen}
+use Rattle.faults.proofs.ReadRails.{read-used}
 
 -- A board's pair by its lines' values.
 module _ (d : Diagram) (vs : List ℕ) (j : ℕ) (h : j < d .outputs) where
@@ -44,7 +44,7 @@ module _ (d : Diagram) (vs : List ℕ) (j : ℕ) (h : j < d .outputs) where
   no-code-by = rw (pairs-at d j (record { on = 0; off = 0 }) h)
 
 -- One line held at one value is a hold list of one hold.
-module _ (table : List ℕ) (yes! : Accepted table) (y b : ℕ) (low : 2 ≤ y) (high : y < lineCount (tableBoard table)) (bound : b ≤ 1) where
+module _ (table : List ℕ) (yes! : Accepted table) (y b : ℕ) (low : 2 ≤ y) (read : isRead (tableBoard table) y ≡ true) (bound : b ≤ 1) where
   abbrev d : Diagram
   d = diagramIn table
 
@@ -66,7 +66,7 @@ module _ (table : List ℕ) (yes! : Accepted table) (y b : ℕ) (low : 2 ≤ y) 
       ⊎ (Shows (boardOf d) (values a) j b b × (noCode (boardOf d .pairs) (values a) j ≡ true))
   unfolding stuckAt
   pair-is a j h =
-      let ranged = accepted table (yes! .1) .ranged in
+      let ranged = accepted table (yes! .1) .reduced .ranged in
       let x = inputOf a in
       let value = value-bit d ranged x j h in
       ⊎-elim
@@ -82,12 +82,10 @@ module _ (table : List ℕ) (yes! : Accepted table) (y b : ℕ) (low : 2 ≤ y) 
   pub seen : (a : ℕ) × (a < 2 ^ d .contacts) × (j : ℕ) × (j < d .outputs) × Shows (boardOf d) (values a) j b b
   unfolding boardOf stuckAt
   seen =
-      let a = accepted table (yes! .1) in
-      let reduced : Reduced d = record { ranged = a .ranged; differing = a .differing; counted = a .counted } in
-      let (x, j, h, shows) = no-unseen d some reduced (a .forking) y b low high bound in
+      let (x, j, h, shows) = no-unseen d some (accepted table (yes! .1) .reduced) y b low read bound in
       let (n, below, agrees) = inputNumber x (d .contacts) in
       let run = one-way-run (boardOf d) wired x b bound (hold ∷ []) (refl, tt) in
-      let (on, off) = shows _ run (held-shows (boardOf d) wired x b bound y low high) in
+      let (on, off) = shows _ run (held-shows (boardOf d) wired x b bound y low (read-used d some y low read .1)) in
       (n, below, j, h, rw (code-same (inputOf n) x (d .contacts) agrees) (shows-by d _ j h b b on off))
 
   pub betrayed : any (2 ^ d .contacts) (betrays (boardOf d) hold) ≡ true

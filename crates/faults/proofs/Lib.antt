@@ -8,7 +8,10 @@ pub mod Shown
 pub mod Lifts
 pub mod GatesShown
 pub mod RailsShown
+pub mod ReadRails
 pub mod NoUnseen
 pub mod HeldLines
 pub mod Betrayed
+pub mod Unread
+pub mod Spare
 pub mod Promises

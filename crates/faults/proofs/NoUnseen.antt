@@ -1,17 +1,16 @@
--- No stuck line stays unseen: at some input it makes the pair of some output show its own value twice.
-use Prim.Native.Nat.{ℕ, zero, suc, _+_, _*_, _-_, _≤_, _<_}
-use native.Mathlib.Decide.{ℕ-discrete, decLe}
+-- No stuck line that is read stays unseen: at some input it makes the pair of some output show its own value twice.
+use Prim.Native.Nat.{ℕ, zero, suc, _+_, _≤_, _<_}
+use native.Mathlib.Decide.{ℕ-discrete}
 use native.Mathlib.Nat.{zero-add}
 use native.Mathlib.Omega.{arith}
 use mathlib.Core.Path.{_≡_, refl, sym, _∙_}
-use mathlib.Core.Bool.{Bool, true, false}
-use mathlib.Core.Logic.{by-cases}
+use mathlib.Core.Bool.{Bool, true}
+use mathlib.Core.Logic.{by-cases, ⊎-elim}
 use Rattle.diagram.specs.declared.Diagram.{Diagram}
-use Rattle.diagram.specs.Diagram.{bit, Input, path, valueAt}
-use Rattle.diagram.specs.Questions.{branching}
-use Rattle.diagram.proofs.Paths.{Branches, branches, place, width-last, value-bit}
+use Rattle.diagram.specs.Diagram.{Input, path, valueAt}
+use Rattle.diagram.proofs.Paths.{Branches, width-last, value-bit}
 use Rattle.diagram.proofs.Unique.{Reduced}
-use Rattle.netlist.specs.Netlist.{gateLine, lineCount}
+use Rattle.netlist.specs.Netlist.{gateLine, lineCount, isRead}
 use Rattle.rules.specs.declared.Entry.{Entry}
 use Rattle.rules.specs.declared.Entry.the-variants.{Never, Always, Line}
 use Rattle.rules.specs.Blocks.{size, cut}
@@ -25,6 +24,7 @@ use Rattle.faults.proofs.Routes.{nodeAt}
 use Rattle.faults.proofs.Shown.{Low, High, Spoils}
 use Rattle.faults.proofs.GatesShown.{gate-shown}
 use Rattle.faults.proofs.RailsShown.{railOf, rail-shown}
+use Rattle.faults.proofs.ReadRails.{read-used}
 
 -- Line y held at b is betrayed: at some input some pair shows b twice, whatever other lines are held at b.
 abbrev pub Betrayed : Diagram → ℕ → ℕ → Type 0
@@ -105,14 +105,8 @@ module _ (d : Diagram) (some : 1 ≤ d .contacts) (reduced : Reduced d) where
       betrayed (railOf i t)
       (rail-shown d reduced i t branch (cut (d .contacts)) 0 0 _ whole (omega arith) (omega (arith, whole))) b
 
-  -- Every line that can be held.
-  pub no-unseen : branching d ≡ true → (y b : ℕ) → 2 ≤ y → y < lineCount (boardOf d) → b ≤ 1 → Betrayed d y b
-  no-unseen asked y b from below h =
-      by-cases (decLe (gateLine (d .contacts)) y) (λ l. no-unseen-gate y b l below h) (λ l. go l (place (y - 2)))
-    where
-      rail : (i : ℕ) (t : Bool) → i < d .contacts → y ≡ railOf i t → Betrayed d y b
-      rail i t l e = rw e (no-unseen-rail i t b l (branches d asked i l) h)
-
-      go : (gateLine (d .contacts) ≤ y → ⊥) → (i : ℕ) × (t : Bool) × (y - 2 ≡ 2 * i + bit t) → Betrayed d y b
-      go l (i, false, e) = rail i true (omega arith) (omega arith)
-      go l (i, true, e) = rail i false (omega arith) (omega arith)
+  -- Every line that a gate or output reads.
+  pub no-unseen : (y b : ℕ) → 2 ≤ y → isRead (boardOf d) y ≡ true → b ≤ 1 → Betrayed d y b
+  no-unseen y b from read h =
+      let (used, below) = read-used d some y from read in
+      ⊎-elim (λ l. no-unseen-gate y b l below h) (λ (i, t, l, e, branch). rw e (no-unseen-rail i t b l branch h)) used

@@ -20,10 +20,10 @@ no-wrong-lines table (bytes, all) b bound holds (ordered, way) x j h =
     let some = a .sized .contacts .0 in
     let run = one-way-run (boardOf d) (board-wired d some) x b bound (holdsOf holds) (all-holds (λ v. v ≡ b) holds way) in
     ⊎-elim (λ (p, q). inl (shows-by d _ j h _ _ p q)) (λ (p, q). inr (shows-by d _ j h _ _ p q))
-    (no-wrong-code d (a .ranged) some x b _ bound run j h)
+    (no-wrong-code d (a .reduced .ranged) some x b _ bound run j h)
 
 pub no-unseen-line : NoUnseenLine
-no-unseen-line table all y b low high bound = seen table all y b low high bound
+no-unseen-line table all y b low read bound = seen table all y b low read bound
 
 pub run-writes : RunWrites
 unfolding runOf

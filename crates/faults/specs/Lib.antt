@@ -1,2 +1,3 @@
 pub mod Betrayal
 pub mod Promises
+pub mod Spare

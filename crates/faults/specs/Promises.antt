@@ -6,7 +6,7 @@ use mathlib.Core.List.{List}
 use mathlib.Core.Logic.{_⊎_}
 use lib.ListN.{length, getD}
 use Rattle.diagram.specs.Diagram.{Input, valueAt}
-use Rattle.netlist.specs.Netlist.{Netlist, holdAt, holdsOf, lineCount, fileOf}
+use Rattle.netlist.specs.Netlist.{Netlist, holdAt, holdsOf, lineCount, isRead, fileOf}
 use Rattle.simulation.specs.Run.{valuesOf, shownBy}
 use Rattle.netlist.specs.Questions.{areOrdered}
 use Rattle.simulation.specs.Service.{runRefusal, runOf}
@@ -42,11 +42,11 @@ NoWrongCode =
     let values = valuesOf net (codeRails (net .contacts) x) (holdsOf holds) in
     ShowsRight table x values j ⊎ Shows net values j b b
 
--- Just one line held, whichever it is and at whichever value, does not stay unseen: at some code input a pair shows 00 for a line
--- held at 0, 11 for one held at 1.
+-- Just one line held that some gate or output reads, whichever it is and at whichever value, does not stay unseen: at some code input
+-- a pair shows 00 for a line held at 0, 11 for one held at 1.
 abbrev pub NoUnseenLine : Type 0
 NoUnseenLine =
-    (table : List ℕ) → Accepted table → (line b : ℕ) → 2 ≤ line → line < lineCount (tableBoard table) → b ≤ 1 →
+    (table : List ℕ) → Accepted table → (line b : ℕ) → 2 ≤ line → isRead (tableBoard table) line ≡ true → b ≤ 1 →
     (a : ℕ) × (a < 2 ^ diagramIn table .contacts) × (j : ℕ) × (j < diagramIn table .outputs)
     × Shows (tableBoard table) (stuckAt (tableBoard table) (record { line = line; value = b }) a) j b b
 

@@ -19,6 +19,7 @@ use Rattle.synthesis.specs.Service.{checkedOr, checkedOf, buildingOf}
 use Rattle.rules.proofs.Promises.{within-formulas, built-files-pass, right-code, different-netlists}
 use Rattle.probe.specs.Service.{probeRefusal, probingOr, probingOf}
 use Rattle.faults.proofs.Promises.{no-wrong-lines, run-writes, no-unseen-line}
+use Rattle.faults.proofs.Spare.{gates-read, spare-contacts, unread-unseen}
 use Rattle.pilgodur.proofs.Promises.{smallest, probe-writes}
 use Rattle.pilgodur.specs.Answers.{wayNumber, probeOf}
 use Rattle.pilgodur.specs.Demands.{Refusals, Demands}
@@ -76,5 +77,6 @@ demands =
             smallest = smallest;
             probeWrites = probe-writes;
           };
+      spare = record { gatesRead = gates-read; contacts = spare-contacts; unseen = unread-unseen };
       sheets = record { determines = sheet-determines; length = sheet-length };
     }

@@ -15,6 +15,7 @@ use Rattle.rules.specs.Promises.{WithinFormulas, BuiltFilesPass, RightCode, Dif
 use Rattle.pilgodur.specs.Answers.{probeOf}
 use Rattle.pilgodur.specs.Promises.{Smallest, ProbeWrites}
 use Rattle.faults.specs.Promises.{NoWrongCode, RunWrites, NoUnseenLine}
+use Rattle.faults.specs.Spare.{GatesRead, SpareContacts, UnreadUnseen}
 
 -- Demand 1. The answer to every call is the full result or one numbered refusal; with a refusal every other result is zero, and it
 -- changes no byte that was lent.
@@ -41,14 +42,21 @@ pub record Netlists : Type 0 where
   pub right : RightCode
   pub different : DifferentNetlists
 
--- Demand 3. Nobody makes a permit pair show the wrong code by lines held all one way; nobody who holds just one line stays unseen
--- at every code input; the probe finds the smallest such input.
+-- Demand 3. Nobody makes a permit pair show the wrong code by lines held all one way; nobody who holds just one line that some gate or
+-- output reads stays unseen at every code input; the probe finds the smallest such input.
 pub record StuckLines : Type 0 where
   pub noWrongCode : NoWrongCode
   pub runWrites : RunWrites
   pub noUnseenLine : NoUnseenLine
   pub smallest : Smallest
   pub probeWrites : ProbeWrites
+
+-- Spare contacts. Every gate of a board is read; both rails of a contact are, or neither, and neither exactly if no output's value
+-- depends on the contact; a line that nothing reads stays unseen at every code input.
+pub record SpareLines : Type 0 where
+  pub gatesRead : GatesRead
+  pub contacts : SpareContacts
+  pub unseen : UnreadUnseen
 
 -- The gate sheet. It determines the netlist once the count of contacts is given; its length by its rows, and the length that is enough
 -- for each.
@@ -60,4 +68,5 @@ pub record Demands : Type 0 where
   pub first : Refusals
   pub second : Netlists
   pub third : StuckLines
+  pub spare : SpareLines
   pub sheets : Sheets

@@ -11,12 +11,12 @@ use Rattle.synthesis.specs.Service.{checkedOf, buildingOf}
 use Rattle.pilgodur.specs.Answers.{probeOf}
 
 -- What a service answers: check's numbers; the file that build writes to a buffer of its length; the pairs that a run of a netlist
--- writes; probe's input, output and way; the lines of the sheet of a netlist, written to a buffer of its length.
+-- writes; probe's numbers; the lines of the sheet of a netlist, written to a buffer of its length.
 pub data Case : Type 0 where
   checks : (table : List ℕ) (refusal contacts outputs gates depth : ℕ) → Case
   builds : (table : List ℕ) (size : ℕ) (file : List ℕ) → Case
   runs : (netlist rails holds pairs : List ℕ) → Case
-  probes : (table hold : List ℕ) (input output way : ℕ) → Case
+  probes : (table hold : List ℕ) (refusal input output way : ℕ) → Case
   sheets : (netlist : List ℕ) (lines : List String) → Case
 
 -- Buffers that are always long enough here.
@@ -30,8 +30,8 @@ Answered (builds table size file) =
     let b = buildingOf table (replicate size 0) in (b .refusal ≡ 0) × (b .length ≡ size) × (b .buffer ≡ file)
 Answered (runs netlist rails holds pairs) =
     let r = runOf netlist rails holds (replicate 17 0) (replicate 2 0) in (r .refusal ≡ 0) × (r .pairs ≡ pairs)
-Answered (probes table hold input output way) =
-    let p = probeOf table hold room .answer in (p .refusal ≡ 0) × (p .input ≡ input) × (p .output ≡ output) × (p .way ≡ way)
+Answered (probes table hold refusal input output way) =
+    probeOf table hold room .answer ≡ record { refusal = refusal; input = input; output = output; way = way }
 Answered (sheets netlist lines) =
     let text = flatMap (λ (line : String). ascii line ++ ascii "\n") lines in
     let s = sheetingOf netlist (replicate (length text) 0) in (s .refusal ≡ 0) × (s .length ≡ length text) × (s .buffer ≡ text)
@@ -63,6 +63,10 @@ selectorFile =
 -- One contact.
 abbrev pub single : List ℕ
 single = 1 ∷ 0 ∷ 1 ∷ 1 ∷ 2 ∷ 0 ∷ 1 ∷ 0 ∷ 3 ∷ 0 ∷ 2 ∷ 0 ∷ 1 ∷ []
+
+-- Two contacts, the first of them spare: the permit is contact 1.
+abbrev pub spare : List ℕ
+spare = 1 ∷ 0 ∷ 1 ∷ 2 ∷ 2 ∷ 0 ∷ 1 ∷ 0 ∷ 3 ∷ 0 ∷ 2 ∷ 0 ∷ 0 ∷ 3 ∷ 0 ∷ 2 ∷ 0 ∷ 1 ∷ []
 
 -- Contact 3 where contacts 0 and 1 choose never, contact 2 open, always, or contact 2 closed; the second output takes contact 0 for
 -- open.
@@ -112,16 +116,22 @@ starred =
     ∷ runs selectorFile (1 ∷ 0 ∷ 1 ∷ 0 ∷ 0 ∷ 1 ∷ []) [] (1 ∷ 0 ∷ [])
     -- Input 6 with line 10 held at 0: contact 1 is closed, pair 01 all the same.
     ∷ runs selectorFile (0 ∷ 1 ∷ 1 ∷ 0 ∷ 1 ∷ 0 ∷ []) (0 ∷ 10 ∷ 0 ∷ []) (0 ∷ 1 ∷ [])
-    ∷ probes selector (0 ∷ 10 ∷ 0 ∷ []) 0 0 0
-    ∷ probes selector (0 ∷ 10 ∷ 1 ∷ []) 3 0 1
+    ∷ probes selector (0 ∷ 10 ∷ 0 ∷ []) 0 0 0 0
+    ∷ probes selector (0 ∷ 10 ∷ 1 ∷ []) 0 3 0 1
     -- Line 14 held at 0 and line 16 at 1, input 0: pair 10, wrong; mixed holds carry no claim.
     ∷ runs selectorFile (0 ∷ 1 ∷ 0 ∷ 1 ∷ 0 ∷ 1 ∷ []) (0 ∷ 14 ∷ 0 ∷ 0 ∷ 16 ∷ 1 ∷ []) (1 ∷ 0 ∷ [])
     ∷ checks single 0 1 1 0 0
     ∷ builds single 14 (1 ∷ 0 ∷ 1 ∷ 1 ∷ 4 ∷ 0 ∷ 0 ∷ 5 ∷ 0 ∷ 4 ∷ 0 ∷ 2 ∷ 0 ∷ 3 ∷ [])
-    -- Two contacts, one output, node 0: two alike nodes; a node out of turn; a level whose edges are equal.
+    -- Two contacts, one output, node 0: two alike nodes; a node out of turn.
     ∷ checks (1 ∷ 0 ∷ 1 ∷ 2 ∷ 2 ∷ 0 ∷ 1 ∷ 0 ∷ 3 ∷ 0 ∷ 2 ∷ 0 ∷ 1 ∷ 3 ∷ 0 ∷ 4 ∷ 0 ∷ 1 ∷ 0 ∷ 1 ∷ []) 6 0 0 0 0
     ∷ checks (1 ∷ 0 ∷ 1 ∷ 2 ∷ 2 ∷ 0 ∷ 1 ∷ 0 ∷ 3 ∷ 0 ∷ 2 ∷ 1 ∷ 0 ∷ 3 ∷ 0 ∷ 4 ∷ 0 ∷ 1 ∷ 1 ∷ 0 ∷ []) 7 0 0 0 0
-    ∷ checks (1 ∷ 0 ∷ 1 ∷ 2 ∷ 2 ∷ 0 ∷ 1 ∷ 0 ∷ 3 ∷ 0 ∷ 2 ∷ 0 ∷ 0 ∷ 3 ∷ 0 ∷ 2 ∷ 0 ∷ 1 ∷ []) 8 0 0 0 0
+    -- A level whose edges are equal: no gates, true line 4, false line 5, and nothing reads lines 2 and 3.
+    ∷ checks spare 0 2 1 0 0
+    ∷ builds spare 14 (1 ∷ 0 ∷ 1 ∷ 2 ∷ 4 ∷ 0 ∷ 0 ∷ 5 ∷ 0 ∷ 4 ∷ 0 ∷ 4 ∷ 0 ∷ 5 ∷ [])
+    ∷ probes spare (0 ∷ 2 ∷ 0 ∷ []) 15 0 0 0
+    ∷ probes spare (0 ∷ 3 ∷ 1 ∷ []) 15 0 0 0
+    ∷ probes spare (0 ∷ 4 ∷ 0 ∷ []) 0 2 0 0
+    ∷ probes spare (0 ∷ 4 ∷ 1 ∷ []) 0 0 0 1
     ∷ sheets selectorFile
     (" LINE KIN     A     B"
     ∷ "    8 AND     3     5"

@@ -19,7 +19,7 @@ pub struct Probed {
     pub way: u32,
 }
 
-// Checks a table: questions 1 to 8; its contacts and outputs, and the gates and depth of its netlist.
+// Checks a table: questions 1 to 7; its contacts and outputs, and the gates and depth of its netlist.
 #[no_mangle]
 pub extern "C" fn pilgodur_check(table: &[u8]) -> Checked
     ensures { λ r. ⌜ r ≡ checkedOf (now (table .entry)) ⌝ }
@@ -27,7 +27,7 @@ pub extern "C" fn pilgodur_check(table: &[u8]) -> Checked
     synthesis::check(table)
 }
 
-// Builds a table's netlist: questions 1 to 8, then 9; the file's bytes and its length.
+// Builds a table's netlist: questions 1 to 7, then 9; the file's bytes and its length.
 #[no_mangle]
 pub extern "C" fn pilgodur_build(table: &[u8], file: &mut [u8]) -> Written
     ensures { λ r. ⌜ record { refusal = r .refusal; length = r .length; buffer = now (file .exit) }
@@ -36,7 +36,7 @@ pub extern "C" fn pilgodur_build(table: &[u8], file: &mut [u8]) -> Written
     synthesis::build(table, file)
 }
 
-// Reads a table's outputs off at an input: questions 1 to 8, then 10.
+// Reads a table's outputs off at an input: questions 1 to 7, then 10.
 #[no_mangle]
 pub extern "C" fn pilgodur_read_off(table: &[u8], input: u32) -> Reading
     ensures { λ r. ⌜ r ≡ readingOf (now (table .entry)) input ⌝ }
@@ -69,7 +69,7 @@ fn way_number(way: Way) -> u32
     }
 }
 
-// Probes a stuck line: questions 1 to 8, 14, then 9.
+// Probes a stuck line: questions 1 to 7, 14, 15, then 9.
 #[no_mangle]
 pub extern "C" fn pilgodur_probe(table: &[u8], hold: &[u8], buffer: &mut [u8]) -> Probed
     ensures { λ r. ⌜ record { answer = r; buffer = now (buffer .exit) }

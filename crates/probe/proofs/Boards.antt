@@ -7,10 +7,11 @@ use mathlib.Core.List.{List, flatMap}
 use lib.ListN.{length}
 use Rattle.fields.proofs.Bounded.{and-left, and-right}
 use Rattle.diagram.specs.declared.Diagram.{Diagram}
-use Rattle.diagram.specs.Questions.{Sized, inRange}
+use Rattle.diagram.specs.Questions.{Sized}
+use Rattle.diagram.proofs.Unique.{Reduced}
 use Rattle.table.proofs.Accepted.{accepted}
 use Rattle.netlist.specs.declared.drive.Holds.the-variants.{Ordered}
-use Rattle.netlist.specs.Netlist.{Netlist, gateLine, lineCount, gateBytes, pairBytes, netWith, holdAt, fileOf, netOf}
+use Rattle.netlist.specs.Netlist.{Netlist, gateLine, lineCount, isRead, gateBytes, pairBytes, netWith, holdAt, fileOf, netOf}
 use Rattle.netlist.specs.Questions.{areGates, arePairs, isSound, netlistOf, areHolds}
 use Rattle.netlist.proofs.Files.{file-fields, file-length, length-gate-bytes, length-pair-bytes, gates-back, pairs-back}
 use Rattle.rules.specs.Board.{boardOf, tableBoard}
@@ -60,10 +61,11 @@ module _ (table : List ℕ) (yes! : Accepted table) where
   paired = and-right (areGates (gateLine (tableBoard table .contacts)) gates) _ sound
 
   findable-in : (hold : List ℕ) (room : ℕ) → oneHold (lineCount (tableBoard table)) hold ≡ Ordered →
+      isRead (tableBoard table) (holdAt hold 0 .line) ≡ true →
       length (fileOf (tableBoard table)) + lineCount (tableBoard table) ≤ room →
       ProbeReady (tableBoard table .contacts) gates pairs hold room
   unfolding boardOf
-  findable-in hold room o fits =
+  findable-in hold room o read fits =
       let net = tableBoard table in
       let s = accepted table (yes! .1) .sized in
       let one = one-held (lineCount net) hold o in
@@ -87,20 +89,21 @@ module _ (table : List ℕ) (yes! : Accepted table) where
           wired = wired;
           paired = paired;
           value = first .bit;
-          seen = rw (net-is net) (betrayed table yes! (holdAt hold 0 .line) (holdAt hold 0 .value) (first .after) (first .within) (first .bit));
+          seen = rw (net-is net) (betrayed table yes! (holdAt hold 0 .line) (holdAt hold 0 .value) (first .after) read (first .bit));
         };
       }
 
--- The diagram of an accepted table: its size and range, and that every line of its board is found once no question refuses.
+-- The diagram of an accepted table: its limits, what it passes, and that a line of its board is found once no question refuses.
 module _ {d : Diagram} (a : AcceptedDiagram d) where
   pub sized : Sized d
   sized = rw (a .is) (accepted (a .table) (a .accepted .1) .sized)
 
-  pub ranged : inRange d ≡ true
-  ranged = rw (a .is) (accepted (a .table) (a .accepted .1) .ranged)
+  pub reduced : Reduced d
+  reduced = rw (a .is) (accepted (a .table) (a .accepted .1) .reduced)
 
   pub findable : (hold : List ℕ) (room : ℕ) → oneHold (lineCount (boardOf d)) hold ≡ Ordered →
+      isRead (boardOf d) (holdAt hold 0 .line) ≡ true →
       length (fileOf (boardOf d)) + lineCount (boardOf d) ≤ room →
       ProbeReady (boardOf d .contacts) (gatesOn (boardOf d)) (pairsOn (boardOf d)) hold room
-  findable hold room o fits =
-      rw (a .is) (findable-in (a .table) (a .accepted) hold room (rw (a .is) at o) (rw (a .is) at fits))
+  findable hold room o read fits =
+      rw (a .is) (findable-in (a .table) (a .accepted) hold room (rw (a .is) at o) (rw (a .is) at read) (rw (a .is) at fits))

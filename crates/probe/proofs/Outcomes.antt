@@ -22,8 +22,11 @@ use Rattle.synthesis.proofs.Services.{Unrefused, length-is}
 use Rattle.probe.specs.declared.service.Probed.{Probed}
 use Rattle.faults.specs.Betrayal.{stuckAt, smallestInput}
 use Rattle.probe.specs.Inner.Findings.{ProbeReady, FoundAndWritten, AcceptedDiagram}
-use Rattle.probe.specs.Service.{oneHold, Probing, probeRefusal, foundAt, refusedProbe, probingOf}
+use Rattle.probe.specs.declared.fanout.Fanout.{Fanout}
+use Rattle.probe.specs.declared.fanout.Fanout.the-variants.{Read, Unread}
+use Rattle.probe.specs.Service.{oneHold, fanoutOf, fanoutNumber, boardAnswers, Probing, probeRefusal, foundAt, refusedProbe, probingOf}
 use Rattle.probe.specs.Inner.Probing.{probingOn}
+use Rattle.probe.proofs.Fanouts.{read-zero}
 use Rattle.probe.proofs.Boards.{gatesOn, pairsOn, net-is, sized, findable}
 
 abbrev probing : Probed → List ℕ → Probing Probed
@@ -65,7 +68,7 @@ module _ {d : Diagram} (drawn : AcceptedDiagram d) {made : ℕ} (count : made �
   abbrev wanted : ℕ
   wanted = 10 + 5 * made + 4 * d .outputs + lines
 
-  lines-are : lines ≡ lineCount (boardOf d)
+  pub lines-are : lines ≡ lineCount (boardOf d)
   unfolding boardOf
   lines-are = ap (λ (k : ℕ). gateLine (d .contacts) + k) count
 
@@ -78,18 +81,18 @@ module _ {d : Diagram} (drawn : AcceptedDiagram d) {made : ℕ} (count : made �
 
   -- The number of the first no.
   abbrev number : ℕ
-  number =
-      let net = boardOf d in
-      firstNo
-      (holdsNumber (oneHold (lineCount net) hold)
-      ∷ roomNumber (roomOf (length (fileOf net) + lineCount net) (length buffer))
-      ∷ [])
+  number = firstNo (boardAnswers (boardOf d) hold (length buffer))
 
-  asked : number ≡ firstNo (holdsNumber (oneHold lines hold) ∷ roomNumber (roomOf wanted (length buffer)) ∷ [])
-  asked =
-      ap₂
-      (λ (lines size : ℕ). firstNo (holdsNumber (oneHold lines hold) ∷ roomNumber (roomOf (size + lines) (length buffer)) ∷ []))
-      (sym lines-are) (sym size-is)
+  abbrev fanout : Fanout
+  fanout = fanoutOf (boardOf d) (holdAt hold 0 .line)
+
+  abbrev numbered : ℕ → ℕ → ℕ
+  numbered lines size =
+      firstNo
+      (holdsNumber (oneHold lines hold) ∷ fanoutNumber fanout ∷ roomNumber (roomOf (size + lines) (length buffer)) ∷ [])
+
+  asked : number ≡ numbered lines (10 + 5 * made + 4 * d .outputs)
+  asked = ap₂ numbered (sym lines-are) (sym size-is)
 
   pub disordered : {r : Probed} → oneHold lines hold ≡ Disordered → r ≡ refusedProbe 14 → ProbeLeavesOn (boardOf d) hold buffer r buffer
   unfolding firstNo
@@ -97,11 +100,18 @@ module _ {d : Diagram} (drawn : AcceptedDiagram d) {made : ℕ} (count : made �
       let no-order : number ≡ 14 = asked ∙ rw o in
       rw no-order (ap (λ (r : Probed). probing r buffer) a)
 
-  module _ (o : oneHold lines hold ≡ Ordered) where
+  pub unread : {r : Probed} → oneHold lines hold ≡ Ordered → fanout ≡ Unread → r ≡ refusedProbe 15 →
+      ProbeLeavesOn (boardOf d) hold buffer r buffer
+  unfolding firstNo
+  unread o f a =
+      let no-reader : number ≡ 15 = asked ∙ rw (o, f) in
+      rw no-reader (ap (λ (r : Probed). probing r buffer) a)
+
+  module _ (o : oneHold lines hold ≡ Ordered) (f : fanout ≡ Read) where
     pub short : {r : Probed} → roomOf wanted (length buffer) ≡ Short → r ≡ refusedProbe 9 → ProbeLeavesOn (boardOf d) hold buffer r buffer
     unfolding firstNo
     short e a =
-        let no-room : number ≡ 9 = asked ∙ rw (o, e) in
+        let no-room : number ≡ 9 = asked ∙ rw (o, f, e) in
         rw no-room (ap (λ (r : Probed). probing r buffer) a)
 
     module _ {gates pairs : List ℕ} (g : gates ≡ gatesOn (boardOf d)) (p : pairs ≡ pairsOn (boardOf d))
@@ -109,20 +119,20 @@ module _ {d : Diagram} (drawn : AcceptedDiagram d) {made : ℕ} (count : made �
       pub ready : ProbeReady (d .contacts) gates pairs hold (length buffer)
       ready =
           rw (contacts-are, g, p)
-          (findable drawn hold (length buffer) (rw lines-are at o)
+          (findable drawn hold (length buffer) (rw lines-are at o) (read-zero _ (ap fanoutNumber f))
           (rw (← lines-are, ← size-is) (enough wanted (length buffer) e)))
 
       pub found : {r : Probed} {after : List ℕ} → FoundAndWritten (d .contacts) gates pairs hold buffer r after → ProbeLeavesOn (boardOf d) hold buffer r after
       unfolding firstNo
-      found f =
+      found w =
           let net = boardOf d in
           let h = holdAt hold 0 in
-          let f' : FoundAndWritten (net .contacts) (gatesOn net) (pairsOn net) hold buffer _ _ = rw (contacts-are, g, p) at f in
-          let none : number ≡ 0 = asked ∙ rw (o, e) in
+          let w' : FoundAndWritten (net .contacts) (gatesOn net) (pairsOn net) hold buffer _ _ = rw (contacts-are, g, p) at w in
+          let none : number ≡ 0 = asked ∙ rw (o, f, e) in
           rw none
           (ap₂ probing
-          (f' .answered
+          (w' .answered
           ∙ ap (λ (net : Netlist). foundAt (net .pairs) (smallestInput net h) (stuckAt net h (smallestInput net h))) (net-is net))
-          (f' .written
+          (w' .written
           ∙ ap₂ (λ (file : List ℕ) (net : Netlist). over (file ++ stuckAt net h (smallestInput net h)) buffer) (file-of net)
           (net-is net)))

@@ -10,10 +10,12 @@ use Rattle.netlist.specs.declared.Hold.{Hold}
 use Rattle.netlist.specs.declared.Pair.{Pair}
 use Rattle.netlist.specs.declared.drive.Holds.{Holds}
 use Rattle.netlist.specs.declared.drive.Holds.the-variants.{Ordered, Disordered}
-use Rattle.netlist.specs.Netlist.{Netlist, holdAt, lineCount, fileOf}
+use Rattle.netlist.specs.Netlist.{Netlist, holdAt, lineCount, isRead, fileOf}
 use Rattle.netlist.specs.Questions.{areOrdered, holdsNumber}
 use Rattle.files.specs.Room.{over, roomOf, roomNumber}
 use Rattle.rules.specs.Board.{tableBoard}
+use Rattle.probe.specs.declared.fanout.Fanout.{Fanout}
+use Rattle.probe.specs.declared.fanout.Fanout.the-variants.{Read, Unread}
 use Rattle.probe.specs.declared.service.Probed.{Probed}
 use Rattle.probe.specs.declared.service.Way.{Way}
 use Rattle.probe.specs.declared.service.Way.the-variants.{BothLow, BothHigh}
@@ -23,15 +25,25 @@ use Rattle.faults.specs.Betrayal.{stuckAt, smallestInput, lowestNoCode}
 abbrev pub oneHold : ℕ → List ℕ → Holds
 oneHold lines hold = cond (eqb (length hold) 3 && areOrdered lines hold) Ordered Disordered
 
--- The table's questions, 14, then 9 for the netlist file followed by one byte a line.
-unfoldable pub probeRefusal : List ℕ → List ℕ → ℕ → ℕ
-probeRefusal table hold lent =
-    let net = tableBoard table in
-    firstNo
-    (tableRefusal table
-    ∷ holdsNumber (oneHold (lineCount net) hold)
+-- 15. Does some gate or output read the line? No: 15.
+abbrev pub fanoutOf : Netlist → ℕ → Fanout
+fanoutOf net line = cond (isRead net line) Read Unread
+
+abbrev pub fanoutNumber : Fanout → ℕ
+fanoutNumber Read = 0
+fanoutNumber Unread = 15
+
+-- The numbers of the answers about a board: 14, then 15, then 9 for the netlist file followed by one byte a line.
+abbrev pub boardAnswers : Netlist → List ℕ → ℕ → List ℕ
+boardAnswers net hold lent =
+    holdsNumber (oneHold (lineCount net) hold)
+    ∷ fanoutNumber (fanoutOf net (holdAt hold 0 .line))
     ∷ roomNumber (roomOf (length (fileOf net) + lineCount net) lent)
-    ∷ [])
+    ∷ []
+
+-- The table's questions, then those about its board.
+unfoldable pub probeRefusal : List ℕ → List ℕ → ℕ → ℕ
+probeRefusal table hold lent = firstNo (tableRefusal table ∷ boardAnswers (tableBoard table) hold lent)
 
 -- The way a pair without a code shows: both low or both high.
 abbrev pub wayOf : ℕ → Way

@@ -1,4 +1,6 @@
 // The service probe.
+use crate::fanout;
+use crate::fanout::Fanout;
 use diagram::Diagram;
 use files::Room;
 use netlist::Holds;
@@ -156,6 +158,10 @@ fn probe_board(d: Diagram, hold: &[u8], buffer: &mut [u8], gates: &mut [u8]) -> 
     let lines = 2 + 2 * n + made;
     let Holds::Ordered = ask_one_hold(lines, hold) else {
         return refused(14);
+    };
+    let line = netlist::number_at(hold, 0) as usize;
+    let Fanout::Read = fanout::ask_fanout(d, line) else {
+        return refused(15);
     };
     let gate_bytes = 5 * made;
     let pair_bytes = 4 * d.outputs;

@@ -1,16 +1,12 @@
 -- Demand 2.
-use Prim.Native.Nat.{ℕ}
 use native.Mathlib.Omega.{arith}
 use mathlib.Core.Path.{sym, _∙_}
-use mathlib.Core.List.{List}
 use Rattle.table.proofs.Accepted.{accepted}
 use Rattle.table.proofs.Encode.{bytes-are}
 use Rattle.table.proofs.SameFile.{same-file}
-use Rattle.diagram.proofs.Unique.{Reduced}
 use Rattle.netlist.proofs.Files.{reads-back, file-determines, file-accepted}
 use Rattle.netlist.proofs.Tests.{Bounds}
 use Rattle.rules.specs.Board.{boardOf, tableBoard}
-use Rattle.table.specs.Promises.{Accepted}
 use Rattle.rules.specs.Promises.{WithinFormulas, BuiltFilesPass, RightCode, DifferentNetlists}
 use Rattle.table.specs.Table.{diagramIn}
 use Rattle.rules.proofs.Bounds.{gates-within, gates-most, sized-narrow}
@@ -35,7 +31,7 @@ right-code table (bytes, all) x j h =
     let d = diagramIn table in
     let a = accepted table all in
     let some = a .sized .contacts .0 in
-    let right = model-right d x _ (run-model (boardOf d) (board-wired d some) x) (a .ranged) some j h in
+    let right = model-right d x _ (run-model (boardOf d) (board-wired d some) x) (a .reduced .ranged) some j h in
     (board-on d _ j h ∙ right .0, board-off d _ j h ∙ right .1)
 
 pub built-files-pass : BuiltFilesPass
@@ -59,18 +55,12 @@ built-files-pass table (bytes, all) =
     let shown = pairs-wired d some in
     (file-bytes net bounds wired shown, file-accepted net bounds wired shown, reads-back net)
 
--- The diagram of an accepted table passes questions 5 to 7.
-reduced : (table : List ℕ) → Accepted table → Reduced (diagramIn table)
-reduced table (bytes, all) =
-    let a = accepted table all in
-    record { ranged = a .ranged; differing = a .differing; counted = a .counted }
-
 pub different-netlists : DifferentNetlists
 different-netlists a b (abytes, ayes) (bbytes, byes) e =
     let d = diagramIn a in
     let f = diagramIn b in
     let one = file-determines (tableBoard a) (tableBoard b) e in
     let some = accepted a ayes .sized .contacts .0 in
-    let same = injective d f one (reduced a (abytes, ayes)) (reduced b (bbytes, byes)) some in
+    let same = injective d f one (accepted a ayes .reduced) (accepted b byes .reduced) some in
     sym (bytes-are a (accepted a ayes) abytes) ∙ same-file d f (same-contacts d f one) (same-outputs d f one) same
     ∙ bytes-are b (accepted b byes) bbytes

@@ -64,7 +64,7 @@ module _ (table : List ℕ) {t : Table} (e : t ≡ tableOf table) where
         yes = sym refusal-is ∙ z;
         is = is;
         sized = rw is s;
-        ranged = rw is (a .ranged);
+        ranged = rw is (a .reduced .ranged);
         few = rw is (gates-most (diagramIn table) (s .contacts .0) (s .contacts .1) (sized-narrow (diagramIn table) s));
       }
 

@@ -1,4 +1,4 @@
--- What an accepted table file is: its shape, and that its diagram passes questions 5 to 8.
+-- What an accepted table file is: its shape, and that its diagram passes questions 5 to 7.
 use Prim.Native.Nat.{ℕ, zero, suc}
 use native.Mathlib.Omega.{arith}
 use mathlib.Core.Path.{_≡_, refl}
@@ -15,9 +15,9 @@ use Rattle.table.specs.declared.fit.Outputs.the-variants.{Listed}
 use Rattle.diagram.specs.declared.sound.Range.the-variants.{Within, Outside}
 use Rattle.diagram.specs.declared.sound.Twins.the-variants.{Absent, Present}
 use Rattle.diagram.specs.declared.sound.Numbering.the-variants.{InTurn, OutOfTurn}
-use Rattle.diagram.specs.declared.sound.Branching.the-variants.{Throughout, Missing}
-use Rattle.diagram.specs.Questions.{Sized, inRange, distinct, numbered, branching}
-use Rattle.table.specs.Table.{outputsIn, areLevels, diagramIn, rangeNumber, twinsNumber, numberingNumber, branchingNumber, fieldsRefusal, diagramRefusal, tableRefusal}
+use Rattle.diagram.specs.Questions.{Sized, inRange, distinct, numbered}
+use Rattle.diagram.proofs.Unique.{Reduced}
+use Rattle.table.specs.Table.{outputsIn, areLevels, diagramIn, rangeNumber, twinsNumber, numberingNumber, fieldsRefusal, diagramRefusal, tableRefusal}
 use Rattle.table.proofs.Shaped.{shaped, sized}
 
 pub record AcceptedTable (file : List ℕ) : Type 0 where
@@ -26,10 +26,7 @@ pub record AcceptedTable (file : List ℕ) : Type 0 where
   pub outputs : outputsIn (drop 1 (fieldsOf file .items)) ≡ Listed (diagramIn file .outputs)
   pub levels : areLevels (diagramIn file .contacts) (drop 2 (fieldsOf file .items)) ≡ true
   pub sized : Sized (diagramIn file)
-  pub ranged : inRange (diagramIn file) ≡ true
-  pub differing : distinct (diagramIn file) ≡ true
-  pub counted : numbered (diagramIn file) ≡ true
-  pub forking : branching (diagramIn file) ≡ true
+  pub reduced : Reduced (diagramIn file)
 
 -- Both parts of a list of two numbers whose first that is not 0 is none.
 first-none : (a b : ℕ) → firstNo (a ∷ b ∷ []) ≡ 0 → (a ≡ 0) × (b ≡ 0)
@@ -38,45 +35,30 @@ first-none zero zero e = (refl, refl)
 first-none zero (suc b) e = absurd (omega arith)
 first-none (suc a) b e = absurd (omega arith)
 
--- What a diagram that no question refuses passes.
-pub record Sound (d : Diagram) : Type 0 where
-  pub ranged : inRange d ≡ true
-  pub differing : distinct d ≡ true
-  pub counted : numbered d ≡ true
-  pub forking : branching d ≡ true
-
-pub sound : (d : Diagram) → diagramRefusal d ≡ 0 → Sound d
+-- A diagram that no question refuses.
+pub reduced : (d : Diagram) → diagramRefusal d ≡ 0 → Reduced d
 unfolding diagramRefusal firstNo
-sound d z = go (inRange d) (distinct d) (numbered d) (branching d) refl refl refl refl z
+reduced d z = go (inRange d) (distinct d) (numbered d) refl refl refl z
   where
-    go : (a b c e : Bool) → inRange d ≡ a → distinct d ≡ b → numbered d ≡ c → branching d ≡ e →
+    go : (a b c : Bool) → inRange d ≡ a → distinct d ≡ b → numbered d ≡ c →
         firstNo
-        (rangeNumber (cond a Within Outside)
-        ∷ twinsNumber (cond b Absent Present)
-        ∷ numberingNumber (cond c InTurn OutOfTurn)
-        ∷ branchingNumber (cond e Throughout Missing)
-        ∷ [])
-        ≡ 0 → Sound d
-    go false b c e p q r s z = absurd (omega arith)
-    go true false c e p q r s z = absurd (omega arith)
-    go true true false e p q r s z = absurd (omega arith)
-    go true true true false p q r s z = absurd (omega arith)
-    go true true true true p q r s z = record { ranged = p; differing = q; counted = r; forking = s }
+        (rangeNumber (cond a Within Outside) ∷ twinsNumber (cond b Absent Present) ∷ numberingNumber (cond c InTurn OutOfTurn) ∷ [])
+        ≡ 0 → Reduced d
+    go false b c p q r z = absurd (omega arith)
+    go true false c p q r z = absurd (omega arith)
+    go true true false p q r z = absurd (omega arith)
+    go true true true p q r z = record { ranged = p; differing = q; counted = r }
 
 pub accepted : (file : List ℕ) → tableRefusal file ≡ 0 → AcceptedTable file
 unfolding tableRefusal
 accepted file z =
     let none = first-none (fieldsRefusal file) (diagramRefusal (diagramIn file)) z in
     let s = shaped file (none .0) in
-    let q = sound (diagramIn file) (none .1) in
     record {
       framing = s .framing;
       contacts = s .contacts;
       outputs = s .outputs;
       levels = s .levels;
       sized = sized file s;
-      ranged = q .ranged;
-      differing = q .differing;
-      counted = q .counted;
-      forking = q .forking;
+      reduced = reduced (diagramIn file) (none .1);
     }

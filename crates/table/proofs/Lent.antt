@@ -1,4 +1,4 @@
--- The arrays that fields are laid out in can be lent to questions 5 to 8, and are those of the diagram that the fields hold.
+-- The arrays that fields are laid out in can be lent to questions 5 to 7, and are those of the diagram that the fields hold.
 use Prim.Native.Nat.{ℕ, _≤_}
 use native.Mathlib.Omega.{arith}
 use mathlib.Core.Path.{_≡_, refl}

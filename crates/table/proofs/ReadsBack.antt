@@ -31,7 +31,7 @@ use Rattle.table.specs.declared.fit.Levels.the-variants.{Given, Lacking}
 use Rattle.table.specs.Encode.{levelItem, tableItems, tableBytes}
 use Rattle.table.specs.Promises.{Accepted, TableReadsBack}
 use Rattle.table.specs.Table.{outputsIn, levelsIn, levelsOf, diagramOf, fieldsRefusal, diagramRefusal, tableRefusal}
-use Rattle.table.proofs.Accepted.{sound}
+use Rattle.table.proofs.Accepted.{reduced}
 use Rattle.table.proofs.Decoded.{half}
 use Rattle.table.proofs.Heads.{are-levels}
 use Rattle.table.proofs.Laid.{value-at, width-of, edge-of, root-of}
@@ -148,7 +148,7 @@ pub table-reads-back : TableReadsBack
 table-reads-back d s t =
     (fields-pass d s, ap (λ (fs : Fields). diagramOf (fs .items)) (fields-back d) ∙ diagram-back d t)
 
--- Questions 5 to 8 decide, and where they let the diagram through the file is one of bytes.
+-- Questions 5 to 7 decide, and where they let the diagram through the file is one of bytes.
 pub written-refusal : (d : Diagram) → Sized d → Tidy d → tableRefusal (tableBytes d) ≡ diagramRefusal d
 unfolding tableRefusal
 written-refusal d s t =
@@ -184,4 +184,4 @@ module _ (d : Diagram) (s : Sized d) (ranged : inRange d ≡ true) where
       (omega arith, omega (arith, s .widths l g, length-listed (edgeAt d l) (2 * width d l) 0), level-small l g)))))
 
 pub written-accepted : (d : Diagram) → Sized d → Tidy d → diagramRefusal d ≡ 0 → Accepted (tableBytes d)
-written-accepted d s t z = (written-bytes d s (sound d z .ranged), written-refusal d s t ∙ z)
+written-accepted d s t z = (written-bytes d s (reduced d z .ranged), written-refusal d s t ∙ z)

@@ -14,9 +14,8 @@ use Rattle.table.specs.declared.fit.Levels.{Levels}
 use Rattle.diagram.specs.declared.sound.Range.{Range}
 use Rattle.diagram.specs.declared.sound.Twins.{Twins}
 use Rattle.diagram.specs.declared.sound.Numbering.{Numbering}
-use Rattle.diagram.specs.declared.sound.Branching.{Branching}
-use Rattle.diagram.specs.Questions.{rangeOf, twinsOf, numberingOf, branchingOf}
-use Rattle.table.specs.Table.{outputsIn, outputsNumber, levelsIn, levelsNumber, rangeNumber, twinsNumber, numberingNumber, branchingNumber, fieldsRefusal, diagramRefusal}
+use Rattle.diagram.specs.Questions.{rangeOf, twinsOf, numberingOf}
+use Rattle.table.specs.Table.{outputsIn, outputsNumber, levelsIn, levelsNumber, rangeNumber, twinsNumber, numberingNumber, fieldsRefusal, diagramRefusal}
 
 pub fields-by : (file : List ℕ) (a : Framing) (b : Contacts) (c : Outputs) (e : Levels) →
     let is = fieldsOf file .items in
@@ -25,8 +24,7 @@ pub fields-by : (file : List ℕ) (a : Framing) (b : Contacts) (c : Outputs) (e 
 unfolding fieldsRefusal
 fields-by file a b c e p q r s = cc
 
-pub diagram-by : (d : Diagram) (a : Range) (b : Twins) (c : Numbering) (e : Branching) →
-    rangeOf d ≡ a → twinsOf d ≡ b → numberingOf d ≡ c → branchingOf d ≡ e →
-    firstNo (rangeNumber a ∷ twinsNumber b ∷ numberingNumber c ∷ branchingNumber e ∷ []) ≡ diagramRefusal d
+pub diagram-by : (d : Diagram) (a : Range) (b : Twins) (c : Numbering) → rangeOf d ≡ a → twinsOf d ≡ b → numberingOf d ≡ c →
+    firstNo (rangeNumber a ∷ twinsNumber b ∷ numberingNumber c ∷ []) ≡ diagramRefusal d
 unfolding diagramRefusal
-diagram-by d a b c e p q r s = cc
+diagram-by d a b c p q r = cc

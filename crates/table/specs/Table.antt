@@ -18,11 +18,9 @@ use Rattle.diagram.specs.declared.sound.Twins.{Twins}
 use Rattle.diagram.specs.declared.sound.Twins.the-variants.{Absent, Present}
 use Rattle.diagram.specs.declared.sound.Numbering.{Numbering}
 use Rattle.diagram.specs.declared.sound.Numbering.the-variants.{InTurn, OutOfTurn}
-use Rattle.diagram.specs.declared.sound.Branching.{Branching}
-use Rattle.diagram.specs.declared.sound.Branching.the-variants.{Throughout, Missing}
 use Rattle.table.specs.declared.reading.Reading.{Reading}
 use Rattle.diagram.specs.Diagram.{inputOf, wordAt}
-use Rattle.diagram.specs.Questions.{rangeOf, twinsOf, numberingOf, branchingOf}
+use Rattle.diagram.specs.Questions.{rangeOf, twinsOf, numberingOf}
 
 -- The number of each answer: 0 for yes, and the question's for no.
 abbrev pub outputsNumber : Outputs → ℕ
@@ -44,10 +42,6 @@ twinsNumber Present = 6
 abbrev pub numberingNumber : Numbering → ℕ
 numberingNumber InTurn = 0
 numberingNumber OutOfTurn = 7
-
-abbrev pub branchingNumber : Branching → ℕ
-branchingNumber Throughout = 0
-branchingNumber Missing = 8
 
 -- 3. Is the second tag 2, length 1 to 8? (Asked of the fields from the second on.)
 unfoldable pub outputsIn : List Item → Outputs
@@ -109,10 +103,9 @@ diagramRefusal d =
     (rangeNumber (rangeOf d)
     ∷ twinsNumber (twinsOf d)
     ∷ numberingNumber (numberingOf d)
-    ∷ branchingNumber (branchingOf d)
     ∷ [])
 
--- The first of questions 1 to 8 that the file fails, or 0.
+-- The first of questions 1 to 7 that the file fails, or 0.
 unfoldable pub tableRefusal : List ℕ → ℕ
 tableRefusal file = firstNo (fieldsRefusal file ∷ diagramRefusal (diagramIn file) ∷ [])
 

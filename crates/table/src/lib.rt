@@ -1,4 +1,4 @@
-// Table files: the diagram that one holds under questions 1 to 8, and its word at an input.
+// Table files: the diagram that one holds under questions 1 to 7, and its word at an input.
 mod decode;
 mod fit;
 mod reading;

@@ -1,9 +1,8 @@
-// A table read under questions 1 to 8, and its word at an input.
+// A table read under questions 1 to 7, and its word at an input.
 use crate::decode;
 use crate::fit;
 use crate::fit::Levels;
 use crate::fit::Outputs;
-use diagram::Branching;
 use diagram::Diagram;
 use diagram::Numbering;
 use diagram::Range;
@@ -49,7 +48,7 @@ fn asked_of_fields(file: &[u8]) -> u32
     0
 }
 
-// Questions 5 to 8.
+// Questions 5 to 7.
 fn asked_of_diagram<'a>(
     n: usize,
     widths: &'a [usize],
@@ -68,9 +67,6 @@ fn asked_of_diagram<'a>(
     };
     let Numbering::InTurn = diagram::ask_numbering(n, widths, edges, m, roots) else {
         return 7;
-    };
-    let Branching::Throughout = diagram::ask_branching(n, widths, edges) else {
-        return 8;
     };
     0
 }
@@ -91,7 +87,7 @@ fn refused(number: u32) -> Table
     }
 }
 
-// The table in a file, under questions 1 to 8.
+// The table in a file, under questions 1 to 7.
 pub fn read(file: &[u8]) -> Table
     ensures { λ r. ⌜ r ≡ tableOf (now (file .entry)) ⌝ }
 {

@@ -1,22 +1,27 @@
--- `service::probe_board` meets its contract: each return is the case of `probingOn` that the hold and the room lead to.
+-- `service::probe_board` meets its contract: each return is the case of `probingOn` that the hold, its line and the room lead to.
 use borrow.Author.Needs.{needs}
 use native.Mathlib.Omega.{arith}
 use Prim.Native.Nat.{ℕ, _+_, _*_, _≤_}
-use mathlib.Core.Path.{_≡_, sym, _∙_}
+use mathlib.Core.Path.{_≡_, sym, ap, _∙_}
+use mathlib.Core.List.{List, []}
 use lib.ListN.{length, take}
 use lib.Seq.{length-take-le}
 use Rattle.diagram.specs.declared.Diagram.{Diagram}
 use Rattle.diagram.specs.Questions.{Sized}
 use Rattle.netlist.specs.declared.drive.Holds.the-variants.{Ordered}
 use Rattle.files.specs.declared.room.Room.the-variants.{Enough}
-use Rattle.netlist.specs.Netlist.{gateLine}
+use Rattle.netlist.specs.declared.Hold.{Hold}
+use Rattle.netlist.specs.Netlist.{gateLine, lineCount, holdAt}
+use Rattle.netlist.proofs.Tests.{HoldIn}
 use Rattle.files.specs.Room.{roomOf}
 use Rattle.rules.specs.Board.{boardOf}
 use Rattle.synthesis.proofs.Services.{gates-few, taken-gates, taken-pairs}
 use Rattle.probe.specs.Inner.Findings.{AcceptedDiagram}
-use Rattle.probe.specs.Service.{oneHold}
-use Rattle.probe.proofs.Boards.{gatesOn, pairsOn, sized, ranged}
-use Rattle.probe.proofs.Outcomes.{disordered, short, ready, found}
+use Rattle.probe.specs.declared.fanout.Fanout.the-variants.{Read}
+use Rattle.probe.specs.Service.{oneHold, fanoutOf}
+use Rattle.probe.proofs.Boards.{gatesOn, pairsOn, sized, reduced}
+use Rattle.probe.proofs.OneHold.{one-held, held-line}
+use Rattle.probe.proofs.Outcomes.{lines-are, disordered, unread, short, ready, found}
 use Rattle.probe.proofs.service.probe_board.Statement.{statement}
 use Rattle.probe.proofs.service.probe_board.Tie as tie
 
@@ -59,15 +64,40 @@ lines c = gateLine (diagram c .contacts) + c .synthesise .result
 ordered : (c : tie.After-enum-told) → oneHold (lines (made c)) (start (made c) .args .hold .now) ≡ Ordered
 ordered c = sym (c .before .before .ask-one-hold .ensures) ∙ c .enum-told .given .1
 
+-- The held line, and question 15's answer about it.
+abbrev bytes : tie.After-enum-told → List ℕ
+bytes c = start (made c) .args .hold .now
+
+abbrev hold : tie.After-enum-told → Hold
+hold c = holdAt (bytes c) 0
+
+holds : (c : tie.After-enum-told) → HoldIn (lineCount (boardOf (diagram (made c)))) 1 (hold c)
+holds c = held-line _ (bytes c) (rw (lines-are (drawn (made c)) (made c .synthesise .ensures .0) [] []) at (ordered c))
+
+answered : (c : tie.After-ask-fanout) →
+    let question = c .before .before in
+    c .ask-fanout .result ≡ fanoutOf (boardOf (diagram (made question))) (hold question .line)
+answered c = c .ask-fanout .ensures ∙ ap (fanoutOf (boardOf (diagram (made (c .before .before))))) (c .before .number-at .ensures)
+
+-- The board once the line is read.
+abbrev told : tie.After-enum-told3 → tie.After-enum-told
+told c = c .before .before .before .before
+
+abbrev board : tie.After-enum-told3 → tie.After-synthesise
+board c = made (told c)
+
+read : (c : tie.After-enum-told3) → fanoutOf (boardOf (diagram (board c))) (hold (told c) .line) ≡ Read
+read c = sym (answered (c .before .before)) ∙ c .enum-told3 .given .1
+
 -- The bytes to be written, and question 9's yes.
-abbrev held : tie.After-enum-told3 → tie.After-enum-told
+abbrev held : tie.After-enum-told5 → tie.After-enum-told3
 held c = c .before .before .before .before
 
 abbrev size : tie.After-synthesise → ℕ
 size c = 10 + 5 * c .synthesise .result + 4 * diagram c .outputs + lines c
 
-roomy : (c : tie.After-enum-told3) → roomOf (size (made (held c))) (length (start (made (held c)) .args .buffer .now)) ≡ Enough
-roomy c = sym (c .before .before .ask-room .ensures) ∙ c .enum-told3 .given .1
+roomy : (c : tie.After-enum-told5) → roomOf (size (board (held c))) (length (start (board (held c)) .args .buffer .now)) ≡ Enough
+roomy c = sym (c .before .before .ask-room .ensures) ∙ c .enum-told5 .given .1
 
 slice-aggregate-synthesise : tie.Need-slice-aggregate-synthesise
 slice-aggregate-synthesise c = search needs
@@ -76,7 +106,7 @@ synthesise-requires : tie.Need-synthesise-requires
 synthesise-requires c κs =
     let pre = c .before .before .before .before .before .pre in
     let s = sized (pre .0) in
-    (s, ranged (pre .0), pre .1, omega (arith, s .outputs))
+    (s, reduced (pre .0) .ranged, pre .1, omega (arith, s .outputs))
 
 mul-lines : tie.Need-mul-lines
 mul-lines c = omega (arith, within (c .before .before .before) .contacts)
@@ -110,23 +140,17 @@ returns c =
     (sym (asked .ask-one-hold .ensures) ∙ c .before .enum-told2 .given .1)
     (c .refused .ensures)
 
-mul-gate-bytes : tie.Need-mul-gate-bytes
-mul-gate-bytes c = search needs
+number-at-requires : tie.Need-number-at-requires
+number-at-requires c κs = let one = one-held (lines (made c)) (bytes c) (ordered c) in omega (arith, one .0)
 
-mul-pair-bytes : tie.Need-mul-pair-bytes
-mul-pair-bytes c = omega (arith, within (made (c .before)) .outputs)
+cast-line : tie.Need-cast-line
+cast-line c = search needs
 
-add-ask-room : tie.Need-add-ask-room
-add-ask-room c = search needs
-
-add-ask-room-2 : tie.Need-add-ask-room-2
-add-ask-room-2 c = let board = made (c .before) in omega (arith, within board .outputs, few board)
-
-add-ask-room-3 : tie.Need-add-ask-room-3
-add-ask-room-3 c = let board = made (c .before) in omega (arith, within board .contacts, within board .outputs, few board)
-
-ask-room-requires : tie.Need-ask-room-requires
-ask-room-requires c κs = search needs
+ask-fanout-requires : tie.Need-ask-fanout-requires
+ask-fanout-requires c κs =
+    let h = holds (c .before) in
+    let line = c .number-at .ensures in
+    (drawn (made (c .before)), rw line (h .after), rw line (h .within))
 
 enum-told-3 : tie.Need-enum-told-3
 enum-told-3 c = search needs
@@ -142,45 +166,84 @@ same-length-2 c = search needs
 
 returns-2 : tie.Need-returns-2
 returns-2 c =
-    let asked = c .before .before .before in
-    let holds = asked .before .before in
-    let board = made holds in
-    short (drawn board) (board .synthesise .ensures .0) (start board .args .hold .now) _ (ordered holds)
-    (sym (asked .ask-room .ensures) ∙ c .before .enum-told4 .given .1)
+    let question = c .before .before .before in
+    let b = made (question .before .before) in
+    unread (drawn b) (b .synthesise .ensures .0) (start b .args .hold .now) _ (ordered (question .before .before))
+    (sym (answered question) ∙ c .before .enum-told4 .given .1)
     (c .refused2 .ensures)
+
+mul-gate-bytes : tie.Need-mul-gate-bytes
+mul-gate-bytes c = search needs
+
+mul-pair-bytes : tie.Need-mul-pair-bytes
+mul-pair-bytes c = omega (arith, within (board (c .before)) .outputs)
+
+add-ask-room : tie.Need-add-ask-room
+add-ask-room c = search needs
+
+add-ask-room-2 : tie.Need-add-ask-room-2
+add-ask-room-2 c = let b = board (c .before) in omega (arith, within b .outputs, few b)
+
+add-ask-room-3 : tie.Need-add-ask-room-3
+add-ask-room-3 c = let b = board (c .before) in omega (arith, within b .contacts, within b .outputs, few b)
+
+ask-room-requires : tie.Need-ask-room-requires
+ask-room-requires c κs = search needs
+
+enum-told-5 : tie.Need-enum-told-5
+enum-told-5 c = search needs
+
+enum-told-6 : tie.Need-enum-told-6
+enum-told-6 c = search needs
+
+refused-requires-3 : tie.Need-refused-requires-3
+refused-requires-3 c κs = search needs
+
+same-length-3 : tie.Need-same-length-3
+same-length-3 c = search needs
+
+returns-3 : tie.Need-returns-3
+returns-3 c =
+    let question = c .before .before .before in
+    let line = question .before .before in
+    let b = board line in
+    short (drawn b) (b .synthesise .ensures .0) (start b .args .hold .now) _ (ordered (told line)) (read line)
+    (sym (question .ask-room .ensures) ∙ c .before .enum-told6 .given .1)
+    (c .refused3 .ensures)
 
 slice-reshare-prefix-find : tie.Need-slice-reshare-prefix-find
 slice-reshare-prefix-find c = search needs
 
 slice-aggregate-find : tie.Need-slice-aggregate-find
-slice-aggregate-find c = sym (length-take-le _ _ (gates-fit (made (held (c .before)))))
+slice-aggregate-find c = sym (length-take-le _ _ (gates-fit (board (held (c .before)))))
 
 array-share-prefix-pairs : tie.Need-array-share-prefix-pairs
-array-share-prefix-pairs c = pairs-fit (made (held (c .before)))
+array-share-prefix-pairs c = pairs-fit (board (held (c .before)))
 
 slice-aggregate-find-2 : tie.Need-slice-aggregate-find-2
-slice-aggregate-find-2 c = sym (length-take-le _ _ (pairs-fit (made (held (c .before .before)))))
+slice-aggregate-find-2 c = sym (length-take-le _ _ (pairs-fit (board (held (c .before .before)))))
 
 find-requires : tie.Need-find-requires
 find-requires c κs =
     let room = c .before .before .before in
-    let board = made (held room) in
-    ready (drawn board) (board .synthesise .ensures .0) _ (start board .args .buffer .now) (ordered (held room)) (gates-taken board)
-    (pairs-taken board)
-    (roomy room)
-
-same-length-3 : tie.Need-same-length-3
-same-length-3 c = search needs
+    let line = held room in
+    let b = board line in
+    ready (drawn b) (b .synthesise .ensures .0) _ (start b .args .buffer .now) (ordered (told line)) (read line)
+    (gates-taken b) (pairs-taken b) (roomy room)
 
 same-length-4 : tie.Need-same-length-4
 same-length-4 c = search needs
 
-returns-3 : tie.Need-returns-3
-returns-3 c =
+same-length-5 : tie.Need-same-length-5
+same-length-5 c = search needs
+
+returns-4 : tie.Need-returns-4
+returns-4 c =
     let room = c .before .before .before .before .before .before in
-    let board = made (held room) in
-    found (drawn board) (board .synthesise .ensures .0) _ _ (ordered (held room)) (gates-taken board) (pairs-taken board) (roomy room)
-    (c .before .before .find .ensures)
+    let line = held room in
+    let b = board line in
+    found (drawn b) (b .synthesise .ensures .0) _ _ (ordered (told line)) (read line) (gates-taken b) (pairs-taken b)
+    (roomy room) (c .before .before .find .ensures)
 
 pub probe-board-spec : {M : Type 1} → statement M
 probe-board-spec =
@@ -197,22 +260,30 @@ probe-board-spec =
     refused-requires
     same-length
     returns
+    number-at-requires
+    cast-line
+    ask-fanout-requires
+    enum-told-3
+    enum-told-4
+    refused-requires-2
+    same-length-2
+    returns-2
     mul-gate-bytes
     mul-pair-bytes
     add-ask-room
     add-ask-room-2
     add-ask-room-3
     ask-room-requires
-    enum-told-3
-    enum-told-4
-    refused-requires-2
-    same-length-2
-    returns-2
+    enum-told-5
+    enum-told-6
+    refused-requires-3
+    same-length-3
+    returns-3
     slice-reshare-prefix-find
     slice-aggregate-find
     array-share-prefix-pairs
     slice-aggregate-find-2
     find-requires
-    same-length-3
     same-length-4
-    returns-3)
+    same-length-5
+    returns-4)

@@ -5,7 +5,6 @@ use Rattle.fields.specs.Refusals.{firstNo}
 use Rattle.diagram.specs.declared.sound.Range.the-variants.{Within, Outside}
 use Rattle.diagram.specs.declared.sound.Twins.the-variants.{Absent, Present}
 use Rattle.diagram.specs.declared.sound.Numbering.the-variants.{InTurn, OutOfTurn}
-use Rattle.diagram.specs.declared.sound.Branching.the-variants.{Throughout, Missing}
 use Rattle.table.proofs.Refusals.{diagram-by}
 use Rattle.table.proofs.reading.asked_of_diagram.Statement.{statement}
 use Rattle.table.proofs.reading.asked_of_diagram.Tie as tie
@@ -23,7 +22,7 @@ returns : tie.Need-returns
 unfolding firstNo
 returns c d h g =
     let range = sym (c .before .before .ask-range .ensures d h g) ∙ c .enum-told2 .given .1 in
-    diagram-by d Outside _ _ _ range refl refl refl
+    diagram-by d Outside _ _ range refl refl
 
 ask-twins-requires : tie.Need-ask-twins-requires
 ask-twins-requires c κs = c .before .before .before .before .before .before .pre .0
@@ -39,7 +38,7 @@ unfolding firstNo
 returns-2 c d h g =
     let range = sym (c .before .before .before .before .before .ask-range .ensures d h g) ∙ c .before .before .before .enum-told .given .1 in
     let twins = sym (c .before .before .ask-twins .ensures d h) ∙ c .enum-told4 .given .1 in
-    diagram-by d Within Present _ _ range twins refl refl
+    diagram-by d Within Present _ range twins refl
 
 ask-numbering-requires : tie.Need-ask-numbering-requires
 ask-numbering-requires c κs = c .before .before .before .before .before .before .before .before .before .pre
@@ -56,34 +55,15 @@ returns-3 c d h g =
     let range = sym (c .before .before .before .before .before .before .before .before .ask-range .ensures d h g) ∙ c .before .before .before .before .before .before .enum-told .given .1 in
     let twins = sym (c .before .before .before .before .before .ask-twins .ensures d h) ∙ c .before .before .before .enum-told3 .given .1 in
     let numbering = sym (c .before .before .ask-numbering .ensures d h g) ∙ c .enum-told6 .given .1 in
-    diagram-by d Within Absent OutOfTurn _ range twins numbering refl
-
-ask-branching-requires : tie.Need-ask-branching-requires
-ask-branching-requires c κs = c .before .before .before .before .before .before .before .before .before .before .before .before .pre .0
-
-enum-told-7 : tie.Need-enum-told-7
-enum-told-7 c = search needs
-
-enum-told-8 : tie.Need-enum-told-8
-enum-told-8 c = search needs
+    diagram-by d Within Absent OutOfTurn range twins numbering
 
 returns-4 : tie.Need-returns-4
 unfolding firstNo
 returns-4 c d h g =
-    let range = sym (c .before .before .before .before .before .before .before .before .before .before .before .ask-range .ensures d h g) ∙ c .before .before .before .before .before .before .before .before .before .enum-told .given .1 in
-    let twins = sym (c .before .before .before .before .before .before .before .before .ask-twins .ensures d h) ∙ c .before .before .before .before .before .before .enum-told3 .given .1 in
-    let numbering = sym (c .before .before .before .before .before .ask-numbering .ensures d h g) ∙ c .before .before .before .enum-told5 .given .1 in
-    let branching = sym (c .before .before .ask-branching .ensures d h) ∙ c .enum-told8 .given .1 in
-    diagram-by d Within Absent InTurn Missing range twins numbering branching
-
-returns-5 : tie.Need-returns-5
-unfolding firstNo
-returns-5 c d h g =
-    let range = sym (c .before .before .before .before .before .before .before .before .before .before .before .ask-range .ensures d h g) ∙ c .before .before .before .before .before .before .before .before .before .enum-told .given .1 in
-    let twins = sym (c .before .before .before .before .before .before .before .before .ask-twins .ensures d h) ∙ c .before .before .before .before .before .before .enum-told3 .given .1 in
-    let numbering = sym (c .before .before .before .before .before .ask-numbering .ensures d h g) ∙ c .before .before .before .enum-told5 .given .1 in
-    let branching = sym (c .before .before .ask-branching .ensures d h) ∙ c .enum-told7 .given .1 in
-    diagram-by d Within Absent InTurn Throughout range twins numbering branching
+    let range = sym (c .before .before .before .before .before .before .before .before .ask-range .ensures d h g) ∙ c .before .before .before .before .before .before .enum-told .given .1 in
+    let twins = sym (c .before .before .before .before .before .ask-twins .ensures d h) ∙ c .before .before .before .enum-told3 .given .1 in
+    let numbering = sym (c .before .before .ask-numbering .ensures d h g) ∙ c .enum-told5 .given .1 in
+    diagram-by d Within Absent InTurn range twins numbering
 
 pub asked-of-diagram-spec : {M : Type 1} → statement M
 asked-of-diagram-spec =
@@ -101,8 +81,4 @@ asked-of-diagram-spec =
     enum-told-5
     enum-told-6
     returns-3
-    ask-branching-requires
-    enum-told-7
-    enum-told-8
-    returns-4
-    returns-5)
+    returns-4)

@@ -54,7 +54,7 @@ asked-of-diagram-requires c κs =
     rw (c .before .before .before .before .before .before .before .before .before .before .before .contacts .ensures, outputs .0, outputs .1, levels .0, levels .1)
     (lent _ (sym (c .before .before .before .before .before .before .before .before .before .before .before .before .before .asked-of-fields .ensures) ∙ c .before .before .before .before .before .before .before .before .before .before .before .before .if1 .left))
 
--- What questions 5 to 8 say of the diagram whose arrays are lent to them.
+-- What questions 5 to 7 say of the diagram whose arrays are lent to them.
 asked : (c : tie.After-asked-of-diagram) → c .asked-of-diagram .result ≡ diagramRefusal (diagramIn (c .before .before .before .before .before .before .before .before .before .before .before .before .before .before .before .before .args .file .now))
 asked c =
     let is = fieldsOf (c .before .before .before .before .before .before .before .before .before .before .before .before .before .before .before .before .args .file .now) .items in

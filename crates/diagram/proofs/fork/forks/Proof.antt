@@ -1,4 +1,4 @@
--- `sound::forks` meets its contract. The loop's invariant: no node passed has two different edges.
+-- `fork::forks` meets its contract. The loop's invariant: no node passed has two different edges.
 use borrow.Author.Needs.{needs}
 use borrow.Author.Tests.{eq-eqb, ne-eqb}
 use native.Mathlib.Omega.{arith}
@@ -10,8 +10,8 @@ use Rattle.fields.specs.Bounded.{any}
 use Rattle.fields.proofs.Bounded.{any-none, any-more}
 use Rattle.diagram.specs.Inner.Bytes.{isFork}
 use Rattle.diagram.proofs.Loops.{any-end, any-met}
-use Rattle.diagram.proofs.sound.forks.Statement.{statement}
-use Rattle.diagram.proofs.sound.forks.Tie as tie
+use Rattle.diagram.proofs.fork.forks.Statement.{statement}
+use Rattle.diagram.proofs.fork.forks.Tie as tie
 
 abbrev Inv-loop : tie.InvT-loop
 Inv-loop edges from nodes u₀ u = (u ≤ nodes) × (any u (isFork edges from) ≡ false)
