@@ -1,4 +1,5 @@
--- One line held at one value: each pair is right or the held value twice, some code input betrays it, and the smallest that does.
+-- One line that is read, held at one value: each pair is right or the held value twice, some code input betrays the line, and the
+-- smallest that does.
 use Prim.Native.Nat.{ℕ, _^_, _≤_, _<_}
 use native.Mathlib.Omega.{arith}
 use mathlib.Core.Path.{_≡_, refl, sym, ap, _∙_}

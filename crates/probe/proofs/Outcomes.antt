@@ -61,7 +61,7 @@ module _ (table hold buffer : List ℕ) where
   probe-done u w = rw (u .yes) (rw (u .is) at w)
 
 -- A diagram's board that is made, question by question.
-module _ {d : Diagram} (drawn : AcceptedDiagram d) {made : ℕ} (count : made ≡ length (boardOf d .gates)) (hold buffer : List ℕ) where
+module _ {d : Diagram} (drawn : AcceptedDiagram d) {made : ℕ} (count : made ≡ length (boardOf d .gates)) where
   abbrev lines : ℕ
   lines = gateLine (d .contacts) + made
 
@@ -79,60 +79,58 @@ module _ {d : Diagram} (drawn : AcceptedDiagram d) {made : ℕ} (count : made �
   size-is : 10 + 5 * made + 4 * d .outputs ≡ length (fileOf (boardOf d))
   size-is = length-is d (sized drawn) count
 
-  -- The number of the first no.
-  abbrev number : ℕ
-  number = firstNo (boardAnswers (boardOf d) hold (length buffer))
+  module _ (hold buffer : List ℕ) where
+    -- The number of the first no.
+    abbrev number : ℕ
+    number = firstNo (boardAnswers (boardOf d) hold (length buffer))
 
-  abbrev fanout : Fanout
-  fanout = fanoutOf (boardOf d) (holdAt hold 0 .line)
+    abbrev fanout : Fanout
+    fanout = fanoutOf (boardOf d) (holdAt hold 0 .line)
 
-  abbrev numbered : ℕ → ℕ → ℕ
-  numbered lines size =
-      firstNo
-      (holdsNumber (oneHold lines hold) ∷ fanoutNumber fanout ∷ roomNumber (roomOf (size + lines) (length buffer)) ∷ [])
+    abbrev numbered : ℕ → ℕ → ℕ
+    numbered lines size =
+        firstNo
+        (holdsNumber (oneHold lines hold) ∷ fanoutNumber fanout ∷ roomNumber (roomOf (size + lines) (length buffer)) ∷ [])
 
-  asked : number ≡ numbered lines (10 + 5 * made + 4 * d .outputs)
-  asked = ap₂ numbered (sym lines-are) (sym size-is)
+    asked : number ≡ numbered lines (10 + 5 * made + 4 * d .outputs)
+    asked = ap₂ numbered (sym lines-are) (sym size-is)
 
-  pub disordered : {r : Probed} → oneHold lines hold ≡ Disordered → r ≡ refusedProbe 14 → ProbeLeavesOn (boardOf d) hold buffer r buffer
-  unfolding firstNo
-  disordered o a =
-      let no-order : number ≡ 14 = asked ∙ rw o in
-      rw no-order (ap (λ (r : Probed). probing r buffer) a)
+    stopped : (k : ℕ) {r : Probed} → number ≡ suc k → r ≡ refusedProbe (suc k) → ProbeLeavesOn (boardOf d) hold buffer r buffer
+    stopped k e a = rw e (ap (λ (r : Probed). probing r buffer) a)
 
-  pub unread : {r : Probed} → oneHold lines hold ≡ Ordered → fanout ≡ Unread → r ≡ refusedProbe 15 →
-      ProbeLeavesOn (boardOf d) hold buffer r buffer
-  unfolding firstNo
-  unread o f a =
-      let no-reader : number ≡ 15 = asked ∙ rw (o, f) in
-      rw no-reader (ap (λ (r : Probed). probing r buffer) a)
-
-  module _ (o : oneHold lines hold ≡ Ordered) (f : fanout ≡ Read) where
-    pub short : {r : Probed} → roomOf wanted (length buffer) ≡ Short → r ≡ refusedProbe 9 → ProbeLeavesOn (boardOf d) hold buffer r buffer
+    pub disordered : {r : Probed} → oneHold lines hold ≡ Disordered → r ≡ refusedProbe 14 → ProbeLeavesOn (boardOf d) hold buffer r buffer
     unfolding firstNo
-    short e a =
-        let no-room : number ≡ 9 = asked ∙ rw (o, f, e) in
-        rw no-room (ap (λ (r : Probed). probing r buffer) a)
+    disordered o = stopped 13 (asked ∙ rw o)
 
-    module _ {gates pairs : List ℕ} (g : gates ≡ gatesOn (boardOf d)) (p : pairs ≡ pairsOn (boardOf d))
-        (e : roomOf wanted (length buffer) ≡ Enough) where
-      pub ready : ProbeReady (d .contacts) gates pairs hold (length buffer)
-      ready =
-          rw (contacts-are, g, p)
-          (findable drawn hold (length buffer) (rw lines-are at o) (read-zero _ (ap fanoutNumber f))
-          (rw (← lines-are, ← size-is) (enough wanted (length buffer) e)))
+    pub unread : {r : Probed} → oneHold lines hold ≡ Ordered → fanout ≡ Unread → r ≡ refusedProbe 15 →
+        ProbeLeavesOn (boardOf d) hold buffer r buffer
+    unfolding firstNo
+    unread o f = stopped 14 (asked ∙ rw (o, f))
 
-      pub found : {r : Probed} {after : List ℕ} → FoundAndWritten (d .contacts) gates pairs hold buffer r after → ProbeLeavesOn (boardOf d) hold buffer r after
+    module _ (o : oneHold lines hold ≡ Ordered) (f : fanout ≡ Read) where
+      pub short : {r : Probed} → roomOf wanted (length buffer) ≡ Short → r ≡ refusedProbe 9 → ProbeLeavesOn (boardOf d) hold buffer r buffer
       unfolding firstNo
-      found w =
-          let net = boardOf d in
-          let h = holdAt hold 0 in
-          let w' : FoundAndWritten (net .contacts) (gatesOn net) (pairsOn net) hold buffer _ _ = rw (contacts-are, g, p) at w in
-          let none : number ≡ 0 = asked ∙ rw (o, f, e) in
-          rw none
-          (ap₂ probing
-          (w' .answered
-          ∙ ap (λ (net : Netlist). foundAt (net .pairs) (smallestInput net h) (stuckAt net h (smallestInput net h))) (net-is net))
-          (w' .written
-          ∙ ap₂ (λ (file : List ℕ) (net : Netlist). over (file ++ stuckAt net h (smallestInput net h)) buffer) (file-of net)
-          (net-is net)))
+      short e = stopped 8 (asked ∙ rw (o, f, e))
+
+      module _ {gates pairs : List ℕ} (g : gates ≡ gatesOn (boardOf d)) (p : pairs ≡ pairsOn (boardOf d))
+          (e : roomOf wanted (length buffer) ≡ Enough) where
+        pub ready : ProbeReady (d .contacts) gates pairs hold (length buffer)
+        ready =
+            rw (contacts-are, g, p)
+            (findable drawn hold (length buffer) (rw lines-are at o) (read-zero _ (ap fanoutNumber f))
+            (rw (← lines-are, ← size-is) (enough wanted (length buffer) e)))
+
+        pub found : {r : Probed} {after : List ℕ} → FoundAndWritten (d .contacts) gates pairs hold buffer r after → ProbeLeavesOn (boardOf d) hold buffer r after
+        unfolding firstNo
+        found w =
+            let net = boardOf d in
+            let h = holdAt hold 0 in
+            let w' : FoundAndWritten (net .contacts) (gatesOn net) (pairsOn net) hold buffer _ _ = rw (contacts-are, g, p) at w in
+            let none : number ≡ 0 = asked ∙ rw (o, f, e) in
+            rw none
+            (ap₂ probing
+            (w' .answered
+            ∙ ap (λ (net : Netlist). foundAt (net .pairs) (smallestInput net h) (stuckAt net h (smallestInput net h))) (net-is net))
+            (w' .written
+            ∙ ap₂ (λ (file : List ℕ) (net : Netlist). over (file ++ stuckAt net h (smallestInput net h)) buffer) (file-of net)
+            (net-is net)))

@@ -3,7 +3,7 @@ use borrow.Author.Needs.{needs}
 use native.Mathlib.Omega.{arith}
 use Prim.Native.Nat.{ℕ, _+_, _*_, _≤_}
 use mathlib.Core.Path.{_≡_, sym, ap, _∙_}
-use mathlib.Core.List.{List, []}
+use mathlib.Core.List.{List}
 use lib.ListN.{length, take}
 use lib.Seq.{length-take-le}
 use Rattle.diagram.specs.declared.Diagram.{Diagram}
@@ -72,7 +72,7 @@ abbrev hold : tie.After-enum-told → Hold
 hold c = holdAt (bytes c) 0
 
 holds : (c : tie.After-enum-told) → HoldIn (lineCount (boardOf (diagram (made c)))) 1 (hold c)
-holds c = held-line _ (bytes c) (rw (lines-are (drawn (made c)) (made c .synthesise .ensures .0) [] []) at (ordered c))
+holds c = held-line _ (bytes c) (rw (lines-are (drawn (made c)) (made c .synthesise .ensures .0)) at (ordered c))
 
 answered : (c : tie.After-ask-fanout) →
     let question = c .before .before in
