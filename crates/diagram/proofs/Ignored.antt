@@ -4,7 +4,7 @@ use native.Mathlib.Decide.{ℕ-discrete, decLt}
 use native.Mathlib.Nat.{zero-add}
 use native.Mathlib.Omega.{arith}
 use mathlib.Core.Path.{_≡_, refl, sym, ap, _∙_}
-use mathlib.Core.Bool.{Bool, true, false, not}
+use mathlib.Core.Bool.{Bool, true, false, not, true≢false}
 use mathlib.Core.Logic.{by-cases}
 use borrow.Author.Tests.{eqb-false, not-true, ne-eqb}
 use lib.Dec.{eqb}
@@ -36,17 +36,14 @@ module _ (d : Diagram) (reduced : Reduced d) (i : ℕ) (h : i < d .contacts) whe
 
   -- Where no node has different edges, the contact's value leads to the same node.
   module _ (straight : Branches d i → ⊥) where
-    same-edge : (u : ℕ) → u < width d i → (b c : Bool) → edge d i u b ≡ edge d i u c
-    same-edge u hu b c = go b c
-      where
-        equal : edge d i u false ≡ edge d i u true
-        equal = by-cases (ℕ-discrete (edge d i u false) (edge d i u true)) (λ e. e) (λ ne. absurd (straight (u, hu, ne)))
+    equal-edges : (u : ℕ) → u < width d i → edge d i u false ≡ edge d i u true
+    equal-edges u hu = by-cases (ℕ-discrete (edge d i u false) _) (λ e. e) (λ ne. absurd (straight (u, hu, ne)))
 
-        go : (b c : Bool) → edge d i u b ≡ edge d i u c
-        go false false = refl
-        go false true = equal
-        go true false = sym equal
-        go true true = refl
+    same-edge : (u : ℕ) → u < width d i → (b c : Bool) → edge d i u b ≡ edge d i u c
+    same-edge u hu false false = refl
+    same-edge u hu false true = equal-edges u hu
+    same-edge u hu true false = sym (equal-edges u hu)
+    same-edge u hu true true = refl
 
     pub ignored : Ignores d i
     ignored x y same j hj =
@@ -82,7 +79,7 @@ module _ (d : Diagram) (reduced : Reduced d) (i : ℕ) (h : i < d .contacts) whe
               ∙ ap (path d (join (suc i) (λ _. b) t) (suc left) i) leads
               ∙ path-first d t b left i u
 
-          past : (b : Bool) (k : ℕ) → suc i < suc k → input b k ≡ t k
+          past : (b : Bool) (k : ℕ) → i < k → input b k ≡ t k
           past b k l = join-from i x _ k (omega arith) ∙ join-from (suc i) (λ _. b) t k (omega arith)
 
           agree : (k : ℕ) → (k ≡ i → ⊥) → input false k ≡ input true k
@@ -103,7 +100,4 @@ module _ (d : Diagram) (l : ℕ) (below : l < d .contacts) where
   forks-branch e = let (u, hu, t) = any-found _ _ (sym forks ∙ e) in (u, hu, eqb-false _ _ (not-true _ t))
 
   pub no-fork : asked ≡ false → Branches d l → ⊥
-  no-fork e (u, hu, ne) =
-      let found = forks ∙ any-at _ (width d l) u hu (ap not (ne-eqb _ _ ne)) in
-      let z : _≡_ {A = ℕ} 0 1 = cc in
-      absurd (omega arith)
+  no-fork e (u, hu, ne) = true≢false (sym (forks ∙ any-at _ (width d l) u hu (ap not (ne-eqb _ _ ne))) ∙ e)

@@ -2,7 +2,7 @@
 use Prim.Native.Nat.{ℕ, zero, suc, _<_}
 use native.Mathlib.Omega.{arith}
 use mathlib.Core.Path.{_≡_, refl}
-use mathlib.Core.Bool.{Bool, true, false, _||_}
+use mathlib.Core.Bool.{Bool, true, false, _||_, true≢false, false≢true}
 use mathlib.Core.List.{List, [], _∷_}
 use mathlib.Core.Logic.{_⊎_, inl, inr, ⊎-elim}
 use borrow.Author.Tests.{eqb-true, eqb-false}
@@ -17,13 +17,13 @@ or-either true b e = inl refl
 or-either false b e = inr e
 
 or-neither : (a b : Bool) → (a || b) ≡ false → (a ≡ false) × (b ≡ false)
-or-neither true b e = absurd (let z : _≡_ {A = ℕ} 0 1 = cc in omega arith)
+or-neither true b e = absurd (true≢false e)
 or-neither false b e = (refl, e)
 
 module _ {A : Type 0} (p : A → Bool) (none : A) where
   any-of-found : (xs : List A) → anyOf p xs ≡ true → (i : ℕ) × (i < length xs) × (p (getD xs i none) ≡ true)
   unfolding anyOf
-  any-of-found [] e = absurd (let z : _≡_ {A = ℕ} 0 1 = cc in omega arith)
+  any-of-found [] e = absurd (false≢true e)
   any-of-found (x ∷ xs) e =
       ⊎-elim (λ h. (0, omega arith, h)) (λ h. let (i, l, t) = any-of-found xs h in (suc i, omega arith, t))
       (or-either (p x) (anyOf p xs) e)
