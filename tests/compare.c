@@ -106,9 +106,12 @@ static struct answer perform(enum side side, const struct call *call)
     return a;
 }
 
-/* Whether a side kept to the rules for lent bytes: none outside a buffer, none after a refusal, none past what is written. */
+/* Whether a side gave a number that the service can give, and kept to the rules for lent bytes: none outside a buffer, none after a
+ * refusal, none past what is written. */
 static const char *misuse(enum side side, const struct call *call, const struct answer *answer)
 {
+    if (answer->number[0] >= REFUSALS || !(possible[call->service] >> answer->number[0] & 1))
+        return "the service never gives this number";
     for (unsigned i = 1; i < NUMBERS && answer->number[0] != 0; i++)
         if (answer->number[i] != 0)
             return "a refusal comes with a number that is not zero";
@@ -201,7 +204,7 @@ static uint32_t compare(const struct call *call)
             report(call, answers, side_names[side], what);
     }
     uint32_t refusal = answers[REFERENCE].number[0];
-    if (what == NULL && refusal < REFUSALS)
+    if (what == NULL)
         hits[call->service][refusal]++;
     return refusal;
 }
@@ -601,11 +604,12 @@ static bool print_hits(void)
     for (unsigned service = 0; service < SERVICES; service++) {
         printf("%-9s", service_names[service]);
         for (unsigned number = 0; number < REFUSALS; number++) {
-            if (hits[service][number] == 0 && !(possible[service] >> number & 1))
-                printf("%7s", "-");
-            else
+            bool can_be = possible[service] >> number & 1;
+            if (can_be)
                 printf("%7lu", hits[service][number]);
-            all = all && (hits[service][number] != 0) == (possible[service] >> number & 1);
+            else
+                printf("%7s", "-");
+            all = all && (!can_be || hits[service][number] != 0);
         }
         printf("\n");
     }
@@ -654,7 +658,7 @@ static int summary(void)
            "lines that nothing reads\n",
            demands.boards, demands.sheets, demands.inputs, demands.hold_sets, demands.probes, demands.unread);
     if (!all)
-        printf("not every number that a service can give, and only those, was hit, or a size of table or sheet was missed\n");
+        printf("not every number that a service can give was hit, or a size of table or sheet was missed\n");
     printf("%lu differences\n", differences + demands.failures);
     return all && differences + demands.failures == 0 ? 0 : 1;
 }
