@@ -5,9 +5,8 @@ use native.Mathlib.Omega.{arith}
 use mathlib.Core.Path.{_≡_}
 use mathlib.Core.Bool.{true, false}
 use Rattle.diagram.specs.declared.Diagram.{Diagram}
-use Rattle.diagram.specs.Diagram.{width, edge, Input, path}
+use Rattle.diagram.specs.Diagram.{width, edge, Input, path, join}
 use Rattle.diagram.specs.Questions.{inRange, distinct}
-use Rattle.diagram.proofs.Inputs.{join}
 use Rattle.diagram.proofs.Paths.{path-first, edge-in, unlike}
 
 module _ (d : Diagram) (ranged : inRange d ≡ true) (differing : distinct d ≡ true) where

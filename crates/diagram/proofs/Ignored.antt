@@ -12,9 +12,9 @@ use lib.ListN.{getD}
 use Rattle.fields.specs.Bounded.{any}
 use Rattle.fields.proofs.Bounded.{any-at, any-found}
 use Rattle.diagram.specs.declared.Diagram.{Diagram}
-use Rattle.diagram.specs.Diagram.{width, edgeAt, edge, root, Input, path, valueAt, Ignores}
+use Rattle.diagram.specs.Diagram.{width, edgeAt, edge, root, Input, path, valueAt, Ignores, join}
 use Rattle.diagram.specs.Inner.Bytes.{isFork}
-use Rattle.diagram.proofs.Inputs.{join, join-below, join-from}
+use Rattle.diagram.proofs.Inputs.{join-below, join-from}
 use Rattle.diagram.proofs.Paths.{Branches, path-more, path-same, path-join, path-first, root-in, edge-in, path-in}
 use Rattle.diagram.proofs.Asked.{width-is}
 use Rattle.diagram.proofs.Reached.{reached}

@@ -8,15 +8,11 @@ use mathlib.Core.Bool.{Bool, true, false, cond}
 use borrow.Author.Tests.{lt-ltb, le-ltb, eq-eqb, ne-eqb}
 use lib.Dec.{ltb}
 use lib.Pow.{shr-shr}
-use Rattle.diagram.specs.Diagram.{bit, Input, inputOf}
+use Rattle.diagram.specs.Diagram.{bit, Input, inputOf, join}
 
 pub bit-true : (b : Bool) → bit b ≡ 1 → b ≡ true
 bit-true true e = refl
 bit-true false e = absurd (omega arith)
-
--- x below contact h, y from there on.
-unfoldable pub join : ℕ → Input → Input → Input
-join h x y i = cond (ltb i h) (x i) (y i)
 
 module _ (h : ℕ) (x y : Input) (i : ℕ) where
   pub join-below : i < h → join h x y i ≡ x i

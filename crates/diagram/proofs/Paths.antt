@@ -10,9 +10,9 @@ use lib.Dec.{ltb, eqb}
 use Rattle.fields.specs.Bounded.{all}
 use Rattle.fields.proofs.Bounded.{all-at}
 use Rattle.diagram.specs.declared.Diagram.{Diagram}
-use Rattle.diagram.specs.Diagram.{width, edgeAt, bit, edge, root, Input, path, valueAt}
+use Rattle.diagram.specs.Diagram.{width, edgeAt, bit, edge, root, Input, path, valueAt, join}
 use Rattle.diagram.specs.Questions.{inRange, distinct}
-use Rattle.diagram.proofs.Inputs.{join, join-below, join-from}
+use Rattle.diagram.proofs.Inputs.{join-below, join-from}
 
 pub both : (a b : Bool) → (a && b) ≡ true → (a ≡ true) × (b ≡ true)
 both true b e = (refl, e)

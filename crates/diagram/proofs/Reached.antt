@@ -9,9 +9,8 @@ use lib.Dec.{leb}
 use Rattle.fields.specs.Bounded.{all}
 use Rattle.fields.proofs.Bounded.{all-at}
 use Rattle.diagram.specs.declared.Diagram.{Diagram}
-use Rattle.diagram.specs.Diagram.{width, edgeAt, edge, root, Input, path}
+use Rattle.diagram.specs.Diagram.{width, edgeAt, edge, root, Input, path, join}
 use Rattle.diagram.specs.Questions.{mention, mentions, brought, numbered}
-use Rattle.diagram.proofs.Inputs.{join}
 use Rattle.diagram.proofs.Paths.{both, place, path-then}
 
 -- The first k numbers of f are numbered by first mention.

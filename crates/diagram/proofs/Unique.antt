@@ -7,9 +7,8 @@ use mathlib.Core.Path.{_≡_, refl, sym, ap, ap₂, _∙_}
 use mathlib.Core.Bool.{true, false}
 use mathlib.Core.Logic.{⊎-elim}
 use Rattle.diagram.specs.declared.Diagram.{Diagram}
-use Rattle.diagram.specs.Diagram.{width, edgeAt, root, Input, path, valueAt}
+use Rattle.diagram.specs.Diagram.{width, edgeAt, root, Input, path, valueAt, join}
 use Rattle.diagram.specs.Questions.{inRange, distinct, mention, mentions, brought, numbered}
-use Rattle.diagram.proofs.Inputs.{join}
 use Rattle.diagram.proofs.Paths.{place, path-first, width-last, root-in, edgeAt-in}
 use Rattle.diagram.proofs.Reached.{InTurn, found, in-turn, brings, mentioned}
 use Rattle.diagram.proofs.Apart.{one-node}

@@ -7,7 +7,7 @@ use mathlib.Core.Bool.{true}
 use mathlib.Core.Logic.{⊎-elim}
 use lib.Arith.{digits-lt, digits-div, digits-mod}
 use Rattle.diagram.specs.declared.Diagram.{Diagram}
-use Rattle.diagram.specs.Diagram.{Input, inputOf, valueAt, wordAt}
+use Rattle.diagram.specs.Diagram.{Input, inputOf, valueAt, wordOf, wordAt}
 use Rattle.diagram.specs.Questions.{inRange}
 use Rattle.diagram.proofs.Inputs.{inputNumber}
 use Rattle.diagram.proofs.Paths.{value-same, value-bit}
@@ -18,7 +18,7 @@ abbrev pub Bits : Diagram → Input → ℕ → Type 0
 Bits d x m = (j : ℕ) → j < m → valueAt d x j < 2
 
 word-below : (d : Diagram) (x : Input) (m : ℕ) → Bits d x m → wordAt d x m < 2 ^ m
-unfolding wordAt
+unfolding wordOf
 word-below d x zero b = omega arith
 word-below d x (suc m) b =
     omega (arith, digits-lt (b m (omega arith)) (word-below d x m (λ j h. b j (omega arith))))
@@ -33,7 +33,7 @@ digits c v v' w w' h h' p =
 -- A word determines the values.
 pub word-values : (d e : Diagram) (x : Input) (m : ℕ) → Bits d x m → Bits e x m → wordAt d x m ≡ wordAt e x m →
     (j : ℕ) → j < m → valueAt d x j ≡ valueAt e x j
-unfolding wordAt
+unfolding wordOf
 word-values d e x zero bd be w j h = absurd (omega arith)
 word-values d e x (suc m) bd be w j h =
     let rd : Bits d x m = λ i h. bd i (omega arith) in

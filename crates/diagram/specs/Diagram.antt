@@ -34,6 +34,10 @@ Input = ℕ → Bool
 unfoldable pub inputOf : ℕ → Input
 inputOf a i = eqb (a / 2 ^ i % 2) 1
 
+-- x below contact h, y from there on.
+unfoldable pub join : ℕ → Input → Input → Input
+join h x y i = cond (ltb i h) (x i) (y i)
+
 -- The node that so many levels lead to from node u of level l: at level i the 1-edge if contact i is 1, else the 0-edge.
 unfoldable pub path : Diagram → Input → ℕ → ℕ → ℕ → ℕ
 path d x zero l u = u
@@ -48,7 +52,10 @@ abbrev pub Ignores : Diagram → ℕ → Type 0
 Ignores d i =
     (x y : Input) → ((k : ℕ) → (k ≡ i → ⊥) → x k ≡ y k) → (j : ℕ) → j < d .outputs → valueAt d x j ≡ valueAt d y j
 
--- The values of the first outputs as a number, output j with the weight 2^j.
-unfoldable pub wordAt : Diagram → Input → ℕ → ℕ
-wordAt d x zero = 0
-wordAt d x (suc j) = wordAt d x j + valueAt d x j * 2 ^ j
+-- The values of the first outputs as a number, that of output j with the weight 2^j.
+unfoldable pub wordOf : (ℕ → ℕ) → ℕ → ℕ
+wordOf value zero = 0
+wordOf value (suc j) = wordOf value j + value j * 2 ^ j
+
+abbrev pub wordAt : Diagram → Input → ℕ → ℕ
+wordAt d x m = wordOf (valueAt d x) m

@@ -13,8 +13,7 @@ use borrow.Author.Tests.{eqb-true, eqb-false}
 use lib.Dec.{eqb}
 use lib.ListN.{getD}
 use Rattle.diagram.specs.declared.Diagram.{Diagram}
-use Rattle.diagram.specs.Diagram.{width, edge, Input, path}
-use Rattle.diagram.proofs.Inputs.{join}
+use Rattle.diagram.specs.Diagram.{width, edge, Input, path, join}
 use Rattle.diagram.proofs.Paths.{path-more, path-join, path-in}
 use Rattle.diagram.proofs.Apart.{apart}
 use Rattle.diagram.proofs.Unique.{Reduced}

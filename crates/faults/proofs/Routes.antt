@@ -5,9 +5,9 @@ use native.Mathlib.Omega.{arith}
 use mathlib.Core.Path.{_≡_, sym, ap, _∙_}
 use mathlib.Core.Bool.{true}
 use Rattle.diagram.specs.declared.Diagram.{Diagram}
-use Rattle.diagram.specs.Diagram.{width, root, Input, path}
+use Rattle.diagram.specs.Diagram.{width, root, Input, path, join}
 use Rattle.diagram.specs.Questions.{inRange, numbered}
-use Rattle.diagram.proofs.Inputs.{join, join-below, join-from}
+use Rattle.diagram.proofs.Inputs.{join-below, join-from}
 use Rattle.diagram.proofs.Paths.{path-more, path-same, root-in, path-in}
 use Rattle.diagram.proofs.Reached.{reached}
 

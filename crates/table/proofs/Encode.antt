@@ -10,7 +10,7 @@ use Rattle.fields.proofs.Listed.{listed-is}
 use Rattle.fields.specs.Fields.{Bytes, Item, fieldsOf, encoded, valueIn}
 use Rattle.fields.proofs.Encoding.{encoded-of}
 use Rattle.diagram.specs.Diagram.{width, edgeAt, root}
-use Rattle.table.specs.Encode.{levelItem, tableItems, tableBytes}
+use Rattle.table.specs.Encode.{levelItem, itemsOf, bytesOf, contentsOf, tableBytes}
 use Rattle.table.specs.Table.{diagramIn}
 use Rattle.table.proofs.Accepted.{AcceptedTable}
 use Rattle.diagram.proofs.Asked.{width-is}
@@ -42,16 +42,16 @@ module _ (file : List ℕ) (t : AcceptedTable file) where
       (λ k g. edge-of is l k (omega arith) (omega arith) ∙ ap (λ (u : List ℕ). getD u k 0) (value-at (drop 2 is) l)) in
       ap (field 3) e ∙ sym (v .0)
 
-  pub items-are : tableItems (diagramIn file) ≡ is
+  pub items-are : itemsOf (contentsOf (diagramIn file)) ≡ is
   items-are =
       let d = diagramIn file in
       let n = counted is (d .contacts) (t .contacts) in
       let m = lists (drop 1 is) (d .outputs) (t .outputs) in
-      let levels = listed-is (levelItem d) (d .contacts) (drop 2 is) (field 0 []) (level-count (d .contacts) (drop 2 is) (t .levels)) level-is in
+      let levels = listed-is (levelItem (contentsOf d)) (d .contacts) (drop 2 is) (field 0 []) (level-count (d .contacts) (drop 2 is) (t .levels)) level-is in
       let third = levels ∙ sym (drop-drop 1 1 is) ∙ ap (drop 1) (m .split) in
       let second = ap₂ (λ (v : List ℕ) (l : List Item). field 2 v ∷ l) outputs-are third ∙ sym (m .split) ∙ ap (drop 1) (n .split) in
       ap (λ (l : List Item). field 1 (d .contacts ∷ []) ∷ l) second ∙ sym (n .split)
 
   pub bytes-are : Bytes file → tableBytes (diagramIn file) ≡ file
-  unfolding tableBytes
+  unfolding bytesOf
   bytes-are b = ap encoded items-are ∙ encoded-of file b (t .framing)

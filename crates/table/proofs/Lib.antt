@@ -11,5 +11,6 @@ pub mod Encode
 pub mod SameFile
 pub mod Promises
 pub mod Lent
+pub mod Written
 pub mod ReadsBack
 pub mod Tidy

@@ -8,7 +8,7 @@ use Rattle.fields.specs.Fields.{encoded}
 use Rattle.fields.proofs.Listed.{listed-same}
 use Rattle.diagram.specs.declared.Diagram.{Diagram}
 use Rattle.diagram.specs.Diagram.{width, edgeAt, root}
-use Rattle.table.specs.Encode.{levelItem, tableItems, tableBytes}
+use Rattle.table.specs.Encode.{levelItem, itemsOf, bytesOf, contentsOf, tableBytes}
 use Rattle.files.proofs.Heads.{field}
 use Rattle.diagram.proofs.Unique.{Same}
 
@@ -18,13 +18,13 @@ module _ (d e : Diagram) (n : d .contacts ≡ e .contacts) (m : d .outputs ≡ e
       listed-same (edgeAt d l) (edgeAt e l) (2 * width d l) 0 (λ k g. s .edges l k h (omega arith))
       ∙ ap (λ (w : ℕ). listed (edgeAt e l) (2 * w) 0) (s .widths l (omega arith))
 
-  items-same : tableItems d ≡ tableItems e
+  items-same : itemsOf (contentsOf d) ≡ itemsOf (contentsOf e)
   items-same =
       let outputs = listed-same (root d) (root e) (d .outputs) 0 (λ j h. s .roots j (omega arith)) ∙ ap (λ (k : ℕ). listed (root e) k 0) m in
-      let levels = listed-same (levelItem d) (levelItem e) (d .contacts) 0 (λ l h. ap (field 3) (level-same l (omega arith)))
-      ∙ ap (λ (k : ℕ). listed (levelItem e) k 0) n in
+      let levels = listed-same (levelItem (contentsOf d)) (levelItem (contentsOf e)) (d .contacts) 0 (λ l h. ap (field 3) (level-same l (omega arith)))
+      ∙ ap (λ (k : ℕ). listed (levelItem (contentsOf e)) k 0) n in
       λ i. field 1 (n i ∷ []) ∷ field 2 (outputs i) ∷ levels i
 
   pub same-file : tableBytes d ≡ tableBytes e
-  unfolding tableBytes
+  unfolding bytesOf
   same-file = ap encoded items-same

@@ -9,7 +9,7 @@ use mathlib.Core.List.{List}
 use lib.ListN.{getD}
 use lib.Pow.{shl-exact}
 use Rattle.diagram.specs.declared.Diagram.{Diagram}
-use Rattle.diagram.specs.Diagram.{inputOf, path, root, valueAt, wordAt}
+use Rattle.diagram.specs.Diagram.{inputOf, path, root, valueAt, wordOf, wordAt}
 use Rattle.diagram.specs.Inner.Lent.{HasOutputs}
 use Rattle.diagram.proofs.evaluate.word.Statement.{statement}
 use Rattle.diagram.proofs.evaluate.word.Tie as tie
@@ -30,7 +30,7 @@ small w v j b h g =
 
 one-more : (d : Diagram) (n m a j w v : ℕ) (rs : List ℕ) → d .contacts ≡ n → HasOutputs d m rs → w ≡ wordAt d (inputOf a) j →
     v ≡ path d (inputOf a) n 0 (getD rs j 0) → w + v * 2 ^ j ≡ wordAt d (inputOf a) (j + 1)
-unfolding wordAt valueAt root
+unfolding wordOf valueAt root
 one-more d n m a j w v rs h g e f = rw (add-one j) (cc (g .roots))
 
 abbrev Inv-loop : tie.InvT-loop
@@ -41,7 +41,7 @@ abbrev μ-loop : tie.MeasureT-loop
 μ-loop n edges m roots input word₀ j₀ word j = m - j
 
 loop-holds : tie.Need-loop-holds Inv-loop μ-loop
-unfolding wordAt
+unfolding wordOf
 loop-holds c = (omega arith, omega arith, λ d h e g. refl)
 
 shared-slice-read-lead : tie.Need-shared-slice-read-lead Inv-loop μ-loop
