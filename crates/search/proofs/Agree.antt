@@ -12,8 +12,8 @@ use Rattle.netlist.specs.declared.Pair.{Pair}
 use Rattle.netlist.specs.Netlist.{pairsOf, pairAt}
 use Rattle.netlist.proofs.Lists.{getD-pairs}
 use Rattle.faults.specs.Betrayal.{noCode}
-use Rattle.batches.specs.Inner.Batches.{bitOf, bitsOf}
-use Rattle.batches.proofs.Bits.{ones, bits-at, bit-or, bit-agree, bit-either}
+use Rattle.bits.specs.Inner.Bits.{bitOf, bitsOf}
+use Rattle.bits.proofs.Bits.{ones, bits-at, bit-or, bit-agree, bit-either}
 
 -- An output of a netlist, as its bytes name it.
 pub agree-at : (pairs vs : List ℕ) (j : ℕ) → j < length pairs / 4 →

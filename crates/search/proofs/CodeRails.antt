@@ -9,8 +9,8 @@ use lib.ListN.{length, take, set, length-set}
 use lib.Seq.{take-suc-set}
 use Rattle.diagram.specs.Diagram.{bit, inputOf}
 use Rattle.rules.specs.Code.{codeRails}
-use Rattle.batches.specs.Inner.Batches.{bitOf}
-use Rattle.batches.proofs.Rails.{input-bit}
+use Rattle.bits.specs.Inner.Bits.{bitOf}
+use Rattle.bits.proofs.Rails.{input-bit}
 
 other : (b : Bool) (on : ℕ) → bit b ≡ on → 1 - on ≡ bit (not b)
 other true on e = omega arith

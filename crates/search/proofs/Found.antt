@@ -7,8 +7,8 @@ use mathlib.Core.Bool.{Bool, true, false}
 use Rattle.fields.specs.Bounded.{any}
 use Rattle.diagram.specs.Diagram.{bit}
 use Rattle.diagram.proofs.Inputs.{bit-true}
-use Rattle.batches.specs.Inner.Batches.{bitOf}
-use Rattle.batches.proofs.Bits.{bit-zero}
+use Rattle.bits.specs.Inner.Bits.{bitOf}
+use Rattle.bits.proofs.Bits.{bit-zero}
 use Rattle.fields.proofs.Least.{First, within}
 
 clear-false : (b : Bool) → bit b ≡ 0 → b ≡ false

@@ -12,9 +12,10 @@ use Rattle.fields.specs.Bounded.{listed}
 use lib.Seq.{getD-set-other, getD-take}
 use Rattle.simulation.specs.Run.{Rule, Driver, gate, workOut}
 use Rattle.netlist.proofs.Tests.{gates-at}
-use Rattle.batches.specs.Inner.Batches.{bitOf, bitsOf, gateBatch, ruleOf, GatesReady}
+use Rattle.batches.specs.Inner.Batches.{gateBatch, ruleOf, GatesReady}
+use Rattle.bits.specs.Inner.Bits.{bitOf, bitsOf}
 use Rattle.search.proofs.Lines.{made-bit, gates-more}
-use Rattle.batches.proofs.Bits.{bits-at}
+use Rattle.bits.proofs.Bits.{bits-at}
 use Rattle.simulation.proofs.Runs.{run-first}
 
 -- At each bit the lines below gate g obey the run rule, and the line of the held batch's constant is as it was.

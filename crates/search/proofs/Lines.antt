@@ -18,8 +18,9 @@ use Rattle.fields.proofs.Listed.{listed-more}
 use Rattle.simulation.proofs.Runs.{run-append}
 use Rattle.rules.specs.Code.{codeRails}
 use Rattle.faults.specs.Betrayal.{stuckAt}
-use Rattle.batches.specs.Inner.Batches.{bitOf, bitsOf, gateBatch, heldBatch, ruleOf}
-use Rattle.batches.proofs.Bits.{ones, bit-zero, bit-ones, bits-at, bit-and, bit-or, bit-flip}
+use Rattle.batches.specs.Inner.Batches.{gateBatch, heldBatch, ruleOf}
+use Rattle.bits.specs.Inner.Bits.{bitOf, bitsOf}
+use Rattle.bits.proofs.Bits.{ones, bit-zero, bit-ones, bits-at, bit-and, bit-or, bit-flip}
 
 module _ (k line batch : ℕ) where
   shows-bit : (x made : ℕ) → bitOf k (heldBatch line batch x made) ≡ ruleOf line batch k .shows x (bitOf k made)

@@ -6,7 +6,8 @@ use Rattle.diagram.specs.Diagram.{bit}
 use Rattle.netlist.specs.Netlist.{pairsOf, netOf}
 use Rattle.simulation.specs.Run.{valuesOf}
 use Rattle.faults.specs.Betrayal.{stuckAt, someNoCode, betrays}
-use Rattle.batches.specs.Inner.Batches.{bitOf, bitsOf, holdOf}
+use Rattle.batches.specs.Inner.Batches.{holdOf}
+use Rattle.bits.specs.Inner.Bits.{bitOf, bitsOf}
 
 pub mask-tells : (n : ℕ) (gates pairs : List ℕ) (line batch value base : ℕ) (ws : List ℕ) (mask : ℕ) →
     ((k : ℕ) → k < 64 → bitOf k mask ≡ bit (someNoCode (pairsOf pairs) (bitsOf k ws))) →

@@ -8,7 +8,8 @@ ghost use Rattle.diagram.specs.Diagram.{bit};
 ghost use Rattle.netlist.specs.Netlist.{pairsOf, netOf};
 ghost use Rattle.netlist.specs.Questions.{arePairs};
 ghost use Rattle.faults.specs.Betrayal.{someNoCode, lowestNoCode, smallestInput};
-ghost use Rattle.batches.specs.Inner.Batches.{bitOf, bitsOf, SearchReady, BuffersFit};
+ghost use Rattle.batches.specs.Inner.Batches.{SearchReady, BuffersFit};
+ghost use Rattle.bits.specs.Inner.Bits.{bitOf, bitsOf};
 
 // The inputs at which some output's true and false line agree.
 fn agreeing(pairs: &[u8], batches: &[u64]) -> u64
@@ -21,7 +22,7 @@ fn agreeing(pairs: &[u8], batches: &[u64]) -> u64
         let at = 4 * j;
         let on = batches::batch_at(pairs, at, batches);
         let off = batches::batch_at(pairs, at + 2, batches);
-        mask = mask | ((on ^ off) ^ batches::ONES);
+        mask = mask | ((on ^ off) ^ bits::ONES);
     }
     mask
 }
@@ -43,19 +44,19 @@ fn search_in(
         ≡ smallestInput (netOf n (now (gates .entry)) (now (pairs .entry))) (record { line = line; value = value }) ⌝ }
 {
     passes::take_sources(gates, 2 + 2 * n, line, value, sources);
-    let batch = batches::same_batch(value);
+    let batch = bits::same_batch(value);
     let lines = 2 + 2 * n + gates.len() / 5;
     let mut base = 0;
     loop {
         passes::work_batches(gates, sources, n, base, line, batch, low, high);
         let mask = agreeing(pairs, &low[..lines]);
         if mask != 0 {
-            return base as u32 + batches::lowest_bit(mask);
+            return base as u32 + bits::lowest_bit(mask);
         }
         let next = base + 64;
         let mask = agreeing(pairs, &high[..lines]);
         if mask != 0 {
-            return next as u32 + batches::lowest_bit(mask);
+            return next as u32 + bits::lowest_bit(mask);
         }
         base = next + 64;
     }

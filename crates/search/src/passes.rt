@@ -5,7 +5,8 @@ ghost use Prim.Native.Nat.{_+_, _*_, _/_, _%_, _≤_, _<_};
 ghost use lib.ListN.{length, getD, take};
 ghost use Rattle.netlist.specs.Netlist.{gateLine, netOf};
 ghost use Rattle.faults.specs.Betrayal.{stuckAt};
-ghost use Rattle.batches.specs.Inner.Batches.{bitsOf, gateBatch, heldBatch, holdOf, BatchesAre, railsAt, gatesAt};
+ghost use Rattle.batches.specs.Inner.Batches.{gateBatch, heldBatch, holdOf, BatchesAre, railsAt, gatesAt};
+ghost use Rattle.bits.specs.Inner.Bits.{bitsOf};
 ghost use Rattle.batches.specs.Inner.Batches.{SourcesTaken, GatesReady, BatchesReady};
 
 // A byte in 16 bits.
@@ -23,10 +24,10 @@ fn put_rails(n: usize, base: usize, line: usize, batch: u64, batches: &mut [u64]
 {
     for i in 0..n {
         let at = 2 + 2 * i;
-        let on = batches::rail_batch(i, base);
+        let on = bits::rail_batch(i, base);
         batches[at] = batches::show_batch(line, batch, at, on);
         let next = at + 1;
-        batches[next] = batches::show_batch(line, batch, next, on ^ batches::ONES);
+        batches[next] = batches::show_batch(line, batch, next, on ^ bits::ONES);
     }
 }
 
@@ -97,7 +98,7 @@ fn put_inputs(n: usize, base: usize, line: usize, batch: u64, batches: &mut [u64
     ensures { λ _. ⌜ BatchesAre (gateLine n) (now (batches .exit)) (λ k. railsAt n base line batch k (0 ∷ 1 ∷ [])) ⌝ }
 {
     batches[0] = 0;
-    batches[1] = batches::ONES;
+    batches[1] = bits::ONES;
     put_rails(n, base, line, batch, batches);
 }
 

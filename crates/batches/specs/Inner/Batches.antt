@@ -1,5 +1,5 @@
 -- Batches of 64 code inputs: bit k of a line's batch is the line's value at input base + k.
-use Prim.Native.Nat.{ℕ, _+_, _*_, _/_, _%_, _^_, _≤_, _<_}
+use Prim.Native.Nat.{ℕ, _+_, _*_, _/_, _^_, _≤_, _<_}
 use mathlib.Core.Path.{_≡_}
 use mathlib.Core.Bool.{true, cond}
 use mathlib.Core.List.{List, [], _∷_, map}
@@ -14,13 +14,7 @@ use Rattle.simulation.specs.Run.{Rule, rail, gate, holding, workOut}
 use Rattle.rules.specs.Code.{codeRails}
 use Rattle.netlist.specs.Questions.{areGates, arePairs}
 use Rattle.faults.specs.Betrayal.{betrays}
-
--- Bit k of a batch, and of each line's batch.
-abbrev pub bitOf : ℕ → ℕ → ℕ
-bitOf k w = w / 2 ^ k % 2
-
-abbrev pub bitsOf : ℕ → List ℕ → List ℕ
-bitsOf k ws = map (bitOf k) ws
+use Rattle.bits.specs.Inner.Bits.{bitOf, bitsOf}
 
 -- What a gate makes of two batches.
 abbrev pub gateBatch : ℕ → ℕ → ℕ → ℕ

@@ -10,9 +10,9 @@ use Rattle.netlist.specs.Netlist.{pairAt, pairsOf}
 use Rattle.netlist.proofs.Lists.{length-pairs}
 use Rattle.netlist.proofs.Tests.{PairIn, pairs-at}
 use Rattle.faults.specs.Betrayal.{noCode}
-use Rattle.batches.specs.Inner.Batches.{bitOf, bitsOf}
+use Rattle.bits.specs.Inner.Bits.{bitOf, bitsOf}
 use Rattle.search.proofs.Agree.{agree-more}
-use Rattle.batches.proofs.Bits.{bit-zero}
+use Rattle.bits.proofs.Bits.{bit-zero}
 use Rattle.search.proofs.inputs.agreeing.Statement.{statement}
 use Rattle.search.proofs.inputs.agreeing.Tie as tie
 

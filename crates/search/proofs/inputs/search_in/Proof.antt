@@ -11,7 +11,7 @@ use lib.Pow.{pow-mono}
 use lib.Seq.{length-take-le}
 use Rattle.diagram.specs.Diagram.{bit}
 use Rattle.faults.specs.Betrayal.{betrays}
-use Rattle.batches.specs.Inner.Batches.{bitOf}
+use Rattle.bits.specs.Inner.Bits.{bitOf}
 use Rattle.netlist.specs.Netlist.{netOf}
 use Rattle.search.proofs.Found.{clear-all, found}
 use Rattle.fields.proofs.Least.{least-is, within}

@@ -9,7 +9,8 @@ use Rattle.diagram.specs.Diagram.{inputOf}
 use Rattle.netlist.specs.Netlist.{gateLine}
 use Rattle.simulation.specs.Run.{rail, workOut}
 use Rattle.rules.specs.Code.{codeRails}
-use Rattle.batches.specs.Inner.Batches.{bitsOf, ruleOf}
+use Rattle.batches.specs.Inner.Batches.{ruleOf}
+use Rattle.bits.specs.Inner.Bits.{bitsOf}
 use Rattle.search.proofs.Lines.{rails-more}
 use Rattle.search.proofs.passes.put_rails.Statement.{statement}
 use Rattle.search.proofs.passes.put_rails.Tie as tie

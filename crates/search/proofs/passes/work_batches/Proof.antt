@@ -6,7 +6,8 @@ use mathlib.Core.Path.{sym, ap, _∙_}
 use mathlib.Core.List.{map}
 use Rattle.netlist.specs.Netlist.{gateLine, gatesOf}
 use Rattle.simulation.specs.Run.{gate, workOut}
-use Rattle.batches.specs.Inner.Batches.{bitOf, holdOf, ruleOf}
+use Rattle.batches.specs.Inner.Batches.{holdOf, ruleOf}
+use Rattle.bits.specs.Inner.Bits.{bitOf}
 use Rattle.search.proofs.Lines.{run-parts}
 use Rattle.search.proofs.GateBatches.{constant-held}
 use Rattle.search.proofs.passes.work_batches.Statement.{statement}

@@ -1,9 +1,9 @@
--- `batch::same_batch` meets its contract, by the bits of 0 and of all ones.
+-- `word::same_batch` meets its contract, by the bits of 0 and of all ones.
 use native.Mathlib.Omega.{arith}
 use mathlib.Core.Path.{_≡_, sym, _∙_}
-use Rattle.batches.proofs.Bits.{bit-zero, bit-ones}
-use Rattle.batches.proofs.batch.same_batch.Statement.{statement}
-use Rattle.batches.proofs.batch.same_batch.Tie as tie
+use Rattle.bits.proofs.Bits.{bit-zero, bit-ones}
+use Rattle.bits.proofs.word.same_batch.Statement.{statement}
+use Rattle.bits.proofs.word.same_batch.Tie as tie
 
 returns : tie.Need-returns
 returns c = λ k l. bit-zero k ∙ sym (c .if1 .taken)

@@ -12,7 +12,7 @@ use lib.ListN.{getD, List·getD-map}
 use Rattle.fields.specs.Bounded.{all}
 use Rattle.fields.proofs.Bounded.{all-at}
 use Rattle.diagram.specs.Diagram.{bit}
-use Rattle.batches.specs.Inner.Batches.{bitOf, bitsOf}
+use Rattle.bits.specs.Inner.Bits.{bitOf, bitsOf}
 
 abbrev pub ones : ℕ
 ones = 0xFFFF_FFFF_FFFF_FFFF

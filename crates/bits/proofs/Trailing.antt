@@ -6,7 +6,7 @@ use native.Mathlib.Omega.{arith}
 use mathlib.Core.Path.{_≡_, refl, _∙_}
 use lib.Count.{trailingZeros, under}
 use lib.Pow.{shr-shr}
-use Rattle.batches.specs.Inner.Batches.{bitOf}
+use Rattle.bits.specs.Inner.Bits.{bitOf}
 
 -- The bits of a batch past the lowest are those of its half.
 bit-half : (k w : ℕ) → bitOf (suc k) w ≡ bitOf k (w / 2)

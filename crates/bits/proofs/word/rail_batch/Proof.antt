@@ -1,12 +1,12 @@
--- `batch::rail_batch` meets its contract: contacts below 6 by their patterns, the others have one value at all 64 inputs.
+-- `word::rail_batch` meets its contract: contacts below 6 by their patterns, the others have one value at all 64 inputs.
 use borrow.Author.Needs.{needs}
 use native.Mathlib.Omega.{arith}
 use mathlib.Core.Path.{_≡_, sym, _∙_}
-use Rattle.batches.specs.Inner.Batches.{bitOf}
-use Rattle.batches.proofs.Bits.{bit-zero, bit-ones}
-use Rattle.batches.proofs.Rails.{rail-low, rail-high}
-use Rattle.batches.proofs.batch.rail_batch.Statement.{statement}
-use Rattle.batches.proofs.batch.rail_batch.Tie as tie
+use Rattle.bits.specs.Inner.Bits.{bitOf}
+use Rattle.bits.proofs.Bits.{bit-zero, bit-ones}
+use Rattle.bits.proofs.Rails.{rail-low, rail-high}
+use Rattle.bits.proofs.word.rail_batch.Statement.{statement}
+use Rattle.bits.proofs.word.rail_batch.Tie as tie
 
 mul-result : tie.Need-mul-result
 mul-result c = search needs

@@ -10,7 +10,7 @@ use lib.Pow.{shr-shr}
 use Rattle.fields.specs.Bounded.{all}
 use Rattle.fields.proofs.Bounded.{all-at}
 use Rattle.diagram.specs.Diagram.{bit, inputOf}
-use Rattle.batches.specs.Inner.Batches.{bitOf}
+use Rattle.bits.specs.Inner.Bits.{bitOf}
 
 abbrev pub patterns : List ℕ
 patterns =
