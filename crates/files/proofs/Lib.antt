@@ -4,3 +4,4 @@ pub mod Buffers
 pub mod WholeParts
 pub mod Heads
 pub mod Writing
+pub mod TwoFollow

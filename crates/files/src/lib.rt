@@ -1,5 +1,4 @@
-// What tables and netlists share: their first field (question 2), fields of whole parts, fields written one after another, and
-// question 9.
+// What files share: their first field (question 2), fields of whole parts, fields written one after another, and question 9.
 mod header;
 mod parts;
 mod room;
@@ -7,8 +6,10 @@ mod write;
 
 pub use header::Contacts;
 pub use header::count_contacts;
+pub use parts::Parts;
 pub use parts::field_at;
 pub use parts::has_parts;
+pub use parts::two_follow;
 pub use room::Room;
 pub use room::Written;
 pub use room::ask_room;

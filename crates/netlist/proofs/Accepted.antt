@@ -13,14 +13,14 @@ use Rattle.fields.specs.Refusals.{framingNumber, firstNo}
 use Rattle.fields.proofs.Bounded.{and-left, and-right}
 use Rattle.files.specs.declared.header.Contacts.{Contacts}
 use Rattle.files.specs.declared.header.Contacts.the-variants.{Counted, Uncounted}
-use Rattle.files.specs.Header.{contactsIn, contactsNumber, contactsOf, hasParts}
+use Rattle.files.specs.Header.{contactsIn, contactsNumber, contactsOf, hasParts, areTwo}
 use Rattle.files.proofs.WholeParts.{HasParts, has-parts}
 use Rattle.files.proofs.Heads.{field, CountHead, counted}
 use Rattle.netlist.specs.declared.form.Form.{Form}
 use Rattle.netlist.specs.declared.form.Form.the-variants.{Formed, Unformed}
 use Rattle.netlist.specs.declared.wiring.Wiring.the-variants.{Sound, Unsound}
 use Rattle.netlist.specs.Netlist.{gateLine}
-use Rattle.netlist.specs.Questions.{areParts, formOf, formNumber, areGates, arePairs, isSound, wiringNumber, netlistOf, netlistRefusal}
+use Rattle.netlist.specs.Questions.{formOf, formNumber, areGates, arePairs, isSound, wiringNumber, netlistOf, netlistRefusal}
 use Rattle.netlist.proofs.Lists.{length-gates, getD-gates, length-pairs, getD-pairs}
 use Rattle.netlist.proofs.Tests.{gates-at, pairs-at, Bounds, Wired, PairsWired}
 
@@ -45,9 +45,9 @@ counts is e = go (contactsIn is) refl e
     go (Counted n) c e = (n, counted is n c)
     go Uncounted c e = absurd (let z : _≡_ {A = ℕ} 0 1 = cc in omega arith)
 
-parts : (is : List Item) → areParts (drop 1 is) ≡ true →
+parts : (is : List Item) → areTwo (hasParts 4 5 0 10560) (hasParts 5 4 1 8) (drop 1 is) ≡ true →
     (drop 1 is ≡ field 4 (valueIn is 1) ∷ field 5 (valueIn is 2) ∷ []) × HasParts 5 0 10560 (valueIn is 1) × HasParts 4 1 8 (valueIn is 2)
-unfolding areParts
+unfolding areTwo
 parts [] e = absurd (let z : _≡_ {A = ℕ} 0 1 = cc in omega arith)
 parts (i ∷ []) e = absurd (let z : _≡_ {A = ℕ} 0 1 = cc in omega arith)
 parts (i ∷ b ∷ []) e = absurd (let z : _≡_ {A = ℕ} 0 1 = cc in omega arith)
@@ -71,7 +71,7 @@ well-formed fs n e = go (a && b && c) refl e
     b = eqb (contactsNumber (contactsIn (fs .items))) 0
 
     c : Bool
-    c = areParts (drop 1 (fs .items))
+    c = areTwo (hasParts 4 5 0 10560) (hasParts 5 4 1 8) (drop 1 (fs .items))
 
     go : (t : Bool) → (a && b && c) ≡ t → cond t (Formed m) Unformed ≡ Formed n → WellFormed fs n
     go true t e =

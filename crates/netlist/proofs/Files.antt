@@ -14,13 +14,13 @@ use Rattle.fields.specs.Refusals.{firstNo}
 use Rattle.fields.proofs.Bounded.{all-of}
 use Rattle.fields.proofs.Encoding.{of-encoded}
 use Rattle.fields.proofs.Parts.{length-parts, part-at}
-use Rattle.files.specs.Header.{contactsIn}
+use Rattle.files.specs.Header.{contactsIn, areTwo}
 use Rattle.files.proofs.WholeParts.{whole-parts}
 use Rattle.netlist.specs.declared.Gate.{Gate}
 use Rattle.netlist.specs.declared.Pair.{Pair}
 use Rattle.netlist.specs.declared.form.Form.the-variants.{Formed}
 use Rattle.netlist.specs.Netlist.{Netlist, gateLine, gateAt, pairAt, gatesOf, pairsOf, gateBytes, pairBytes, netWith, fileWith, fileOf}
-use Rattle.netlist.specs.Questions.{isGate, isPair, areParts, formOf, isSound, netlistOf, netlistRefusal}
+use Rattle.netlist.specs.Questions.{isGate, isPair, formOf, isSound, netlistOf, netlistRefusal}
 use Rattle.netlist.proofs.Forms.{formed}
 use Rattle.netlist.proofs.Lists.{length-gates, getD-gates, length-pairs, getD-pairs}
 use Rattle.netlist.proofs.Tests.{on-gate, in-pair, Bounds, Wired, PairsWired}
@@ -112,7 +112,7 @@ file-determines a b e = sym (reads-back a) ∙ ap (λ (f : List ℕ). netlistOf 
 
 module _ (net : Netlist) (b : Bounds net) where
   items-formed : Formed (net .contacts) ≡ formOf (record { items = itemsOf net; framing = Whole })
-  unfolding contactsIn areParts
+  unfolding contactsIn areTwo
   items-formed =
       let g = length-gate-bytes (net .gates) in
       let p = length-pair-bytes (net .pairs) in

@@ -1,13 +1,13 @@
 -- Questions 11 to 14, about a netlist file and what it is run with.
 use Prim.Native.Nat.{ℕ, zero, suc, _+_, _*_, _/_, _%_}
-use mathlib.Core.Bool.{Bool, false, _&&_, cond}
+use mathlib.Core.Bool.{Bool, _&&_, cond}
 use mathlib.Core.List.{List, [], _∷_}
 use lib.Dec.{leb, ltb, eqb}
 use lib.ListN.{length, getD, drop}
 use Rattle.fields.specs.Bounded.{all}
 use Rattle.fields.specs.Fields.{Item, Fields, fieldsOf, valueIn}
 use Rattle.fields.specs.Refusals.{framingNumber, firstNo}
-use Rattle.files.specs.Header.{contactsIn, contactsNumber, contactsOf, hasParts}
+use Rattle.files.specs.Header.{contactsIn, contactsNumber, contactsOf, hasParts, areTwo}
 use Rattle.netlist.specs.declared.Gate.{Gate}
 use Rattle.netlist.specs.declared.Pair.{Pair}
 use Rattle.netlist.specs.declared.Hold.{Hold}
@@ -21,18 +21,13 @@ use Rattle.netlist.specs.declared.drive.Holds.{Holds}
 use Rattle.netlist.specs.declared.drive.Holds.the-variants.{Ordered, Disordered}
 use Rattle.netlist.specs.Netlist.{Netlist, gateAt, pairAt, holdAt, gateLine, netOf}
 
-unfoldable pub areParts : List Item → Bool
-areParts [] = false
-areParts (b ∷ []) = false
-areParts (b ∷ c ∷ []) = hasParts 4 5 0 10560 b && hasParts 5 4 1 8 c
-areParts (b ∷ c ∷ d ∷ is) = false
-
 -- 11. Does the file have whole fields of tags 1, 4, 5 in that order and no more, tag 1 as in question 2, tag 4 of 0 to 10,560
 -- whole gates, tag 5 of 1 to 8 whole outputs? No: 11.
 unfoldable pub formOf : Fields → Form
 formOf fs =
     cond
-    (eqb (framingNumber (fs .framing)) 0 && eqb (contactsNumber (contactsIn (fs .items))) 0 && areParts (drop 1 (fs .items)))
+    (eqb (framingNumber (fs .framing)) 0 && eqb (contactsNumber (contactsIn (fs .items))) 0
+    && areTwo (hasParts 4 5 0 10560) (hasParts 5 4 1 8) (drop 1 (fs .items)))
     (Formed (contactsOf (fs .items)))
     Unformed
 

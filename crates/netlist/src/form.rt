@@ -2,40 +2,20 @@
 use crate::Gate;
 use crate::Hold;
 use crate::Pair;
-use fields::Cursor;
 use fields::Framing;
-use fields::Step;
 use files::Contacts;
+use files::Parts;
 ghost use mathlib.Core.Path.{_≡_};
 ghost use Prim.Native.Nat.{_+_, _*_, _≤_};
-ghost use lib.ListN.{length, drop};
+ghost use lib.ListN.{length};
 ghost use Rattle.fields.specs.Fields.{fieldsOf};
 ghost use Rattle.netlist.specs.Netlist.{gateAt, pairAt, holdAt, numberAt};
-ghost use Rattle.netlist.specs.Questions.{formOf, areParts};
+ghost use Rattle.netlist.specs.Questions.{formOf};
 
 // Question 11's answer: the count of contacts.
 pub enum Form {
     Formed(usize),
     Unformed,
-}
-
-// Whether just two fields follow the first: tag 4 of 0 to 10,560 whole gates, tag 5 of 1 to 8 whole outputs.
-fn are_parts(file: &[u8]) -> bool
-    ensures { λ r. ⌜ r ≡ areParts (drop 1 (fieldsOf (now (file .entry)) .items)) ⌝ }
-{
-    let Step::Next(gates, after) = Cursor::new().skip(file, 1).next(file) else {
-        return false;
-    };
-    let Step::Next(pairs, last) = after.next(file) else {
-        return false;
-    };
-    if let Step::Next(_, _) = last.next(file) {
-        return false;
-    }
-    if !files::has_parts(file, gates, 4, 5, 0, 10560) {
-        return false;
-    }
-    files::has_parts(file, pairs, 5, 4, 1, 8)
 }
 
 // Question 11: does the file have whole fields of tags 1, 4, 5 in that order and no more, tag 1 as in question 2, tag 4 of 0
@@ -49,7 +29,19 @@ pub fn ask_form(file: &[u8]) -> Form
     let Contacts::Counted(n) = files::count_contacts(file) else {
         return Form::Unformed;
     };
-    if !are_parts(file) {
+    let gates = Parts {
+        tag: 4,
+        size: 5,
+        least: 0,
+        most: 10560,
+    };
+    let outputs = Parts {
+        tag: 5,
+        size: 4,
+        least: 1,
+        most: 8,
+    };
+    if !files::two_follow(file, gates, outputs) {
         return Form::Unformed;
     }
     Form::Formed(n)

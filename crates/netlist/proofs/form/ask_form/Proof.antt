@@ -30,11 +30,11 @@ enum-told-3 c = search needs
 returns-2 : tie.Need-returns-2
 returns-2 c = uncounted _ (sym (c .before .before .count-contacts .ensures) ∙ c .enum-told3 .given .1)
 
-are-parts-requires : tie.Need-are-parts-requires
-are-parts-requires c κs = search needs
+two-follow-requires : tie.Need-two-follow-requires
+two-follow-requires c κs = search needs
 
 returns-3 : tie.Need-returns-3
-returns-3 c = misparted _ (sym (c .before .are-parts .ensures) ∙ not-true _ (c .if1 .taken))
+returns-3 c = misparted _ (sym (c .before .two-follow .ensures) ∙ not-true _ (c .if1 .taken))
 
 returns-4 : tie.Need-returns-4
 returns-4 c =
@@ -42,7 +42,7 @@ returns-4 c =
     let whole = count .before .before .before in
     formed _ (sym (whole .before .before .whole .ensures) ∙ whole .enum-told .given .1)
     (sym (count .before .before .count-contacts .ensures) ∙ count .n .given .1)
-    (sym (c .before .are-parts .ensures) ∙ not-false _ (c .if1 .left))
+    (sym (c .before .two-follow .ensures) ∙ not-false _ (c .if1 .left))
 
 pub ask-form-spec : {M : Type 1} → statement M
 ask-form-spec =
@@ -56,6 +56,6 @@ ask-form-spec =
     enum-known-n
     enum-told-3
     returns-2
-    are-parts-requires
+    two-follow-requires
     returns-3
     returns-4)

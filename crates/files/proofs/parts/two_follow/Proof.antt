@@ -1,11 +1,11 @@
--- `form::are_parts` meets its contract: each step from the second field on says how many fields are left.
+-- `parts::two_follow` meets its contract: each step from the second field on says how many fields are left.
 use borrow.Author.Needs.{needs}
 use borrow.Author.Tests.{not-true, not-false}
 use mathlib.Core.Path.{sym, _∙_}
 use Rattle.fields.proofs.Steps.{ended}
-use Rattle.netlist.proofs.Forms.{no-part, one-part, more-parts, first-wrong, first-right}
-use Rattle.netlist.proofs.form.are_parts.Statement.{statement}
-use Rattle.netlist.proofs.form.are_parts.Tie as tie
+use Rattle.files.proofs.TwoFollow.{no-part, one-part, more-parts, first-wrong, first-right}
+use Rattle.files.proofs.parts.two_follow.Statement.{statement}
+use Rattle.files.proofs.parts.two_follow.Tie as tie
 
 new-requires : tie.Need-new-requires
 new-requires c κs = search needs
@@ -16,26 +16,26 @@ skip-requires c κs = search needs
 next-requires : tie.Need-next-requires
 next-requires c κs = search needs
 
-enum-known-gates : tie.Need-enum-known-gates
-enum-known-gates c = search needs
+enum-known-one : tie.Need-enum-known-one
+enum-known-one c = search needs
 
 returns : tie.Need-returns
 returns c =
     let step = c .before in
-    no-part _ _ _ (step .before .before .new .ensures) (step .before .skip .ensures) (ended _ _ _ (sym (step .next .ensures)) (c .match .keys2))
+    no-part _ _ _ _ _ (step .before .before .new .ensures) (step .before .skip .ensures) (ended _ _ _ (sym (step .next .ensures)) (c .match .keys2))
 
 next-requires-2 : tie.Need-next-requires-2
 next-requires-2 c κs = search needs
 
-enum-known-pairs : tie.Need-enum-known-pairs
-enum-known-pairs c = search needs
+enum-known-two : tie.Need-enum-known-two
+enum-known-two c = search needs
 
 returns-2 : tie.Need-returns-2
 returns-2 c =
     let second = c .before in
     let first = second .before .before .before .before in
-    one-part _ _ _ (first .before .before .new .ensures) (first .before .skip .ensures)
-    (sym (first .next .ensures) ∙ second .before .before .gates .given .1)
+    one-part _ _ _ _ _ (first .before .before .new .ensures) (first .before .skip .ensures)
+    (sym (first .next .ensures) ∙ second .before .before .one .given .1)
     (ended _ _ _ (sym (second .next2 .ensures)) (c .match2 .keys2))
 
 next-requires-3 : tie.Need-next-requires-3
@@ -49,9 +49,9 @@ returns-3 c =
     let third = c .before .before in
     let second = third .before .before .before .before in
     let first = second .before .before .before .before in
-    more-parts _ _ _ (first .before .before .new .ensures) (first .before .skip .ensures)
-    (sym (first .next .ensures) ∙ second .before .before .gates .given .1)
-    (sym (second .next2 .ensures) ∙ third .before .before .pairs .given .1)
+    more-parts _ _ _ _ _ (first .before .before .new .ensures) (first .before .skip .ensures)
+    (sym (first .next .ensures) ∙ second .before .before .one .given .1)
+    (sym (second .next2 .ensures) ∙ third .before .before .two .given .1)
     (sym (third .next3 .ensures) ∙ c .enum-told .given .1)
 
 has-parts-requires : tie.Need-has-parts-requires
@@ -62,9 +62,9 @@ returns-4 c =
     let third = c .before .before .before in
     let second = third .before .before .before .before in
     let first = second .before .before .before .before in
-    first-wrong _ _ _ (first .before .before .new .ensures) (first .before .skip .ensures)
-    (sym (first .next .ensures) ∙ second .before .before .gates .given .1)
-    (sym (second .next2 .ensures) ∙ third .before .before .pairs .given .1)
+    first-wrong _ _ _ _ _ (first .before .before .new .ensures) (first .before .skip .ensures)
+    (sym (first .next .ensures) ∙ second .before .before .one .given .1)
+    (sym (second .next2 .ensures) ∙ third .before .before .two .given .1)
     (ended _ _ _ (sym (third .next3 .ensures)) (c .before .before .match3 .keys2))
     (sym (c .before .has-parts .ensures) ∙ not-true _ (c .if1 .taken))
 
@@ -78,23 +78,23 @@ returns-5 c =
     let second = third .before .before .before .before in
     let first = second .before .before .before .before in
     c .has-parts2 .ensures
-    ∙ first-right _ _ _ (first .before .before .new .ensures) (first .before .skip .ensures)
-    (sym (first .next .ensures) ∙ second .before .before .gates .given .1)
-    (sym (second .next2 .ensures) ∙ third .before .before .pairs .given .1)
+    ∙ first-right _ _ _ _ _ (first .before .before .new .ensures) (first .before .skip .ensures)
+    (sym (first .next .ensures) ∙ second .before .before .one .given .1)
+    (sym (second .next2 .ensures) ∙ third .before .before .two .given .1)
     (ended _ _ _ (sym (third .next3 .ensures)) (test .before .match3 .keys2))
     (sym (test .has-parts .ensures) ∙ not-false _ (c .before .if1 .left))
 
-pub are-parts-spec : {M : Type 1} → statement M
-are-parts-spec =
+pub two-follow-spec : {M : Type 1} → statement M
+two-follow-spec =
     tie.close
     (tie.spec
     new-requires
     skip-requires
     next-requires
-    enum-known-gates
+    enum-known-one
     returns
     next-requires-2
-    enum-known-pairs
+    enum-known-two
     returns-2
     next-requires-3
     enum-told
