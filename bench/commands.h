@@ -26,8 +26,9 @@ const struct file *load_operand(struct request *request, int operand);
 
 typedef enum status command(struct request *request, FILE *out);
 
-command check, build, read_off, probe;      /* on_table.c */
-command list, run;                          /* on_netlist.c */
+command draw;                                /* draw.c */
+command check, build, read_off, probe;       /* on_table.c */
+command list, run;                           /* on_netlist.c */
 command compare, dictionary, export_netlist; /* compare.c, dictionary.c, export.c */
 
 #endif

@@ -132,3 +132,63 @@ uint32_t hold_latest_line(void)
     memcpy(job.hold, found, 3);
     return latest;
 }
+
+static void use_drawing(const struct drawing *d)
+{
+    job.contacts = d->contacts;
+    job.nodes = d->nodes;
+    job.drawing_length = write_drawing(d, job.drawing);
+}
+
+void use_largest_drawing(unsigned contacts, unsigned nodes)
+{
+    struct diagram diagram;
+    struct drawing d;
+    largest_diagram(&dice, contacts, &diagram);
+    drawing_of(&diagram, &d);
+    redraw(&dice, nodes, &d);
+    use_drawing(&d);
+}
+
+void use_random_drawing(unsigned contacts, unsigned outputs)
+{
+    struct diagram diagram;
+    struct drawing d;
+    busy_diagram(&dice, contacts, outputs, &diagram);
+    drawing_of(&diagram, &d);
+    use_drawing(&d);
+}
+
+/* Seven functions of the last three contacts, each under an AND of all others, and the constant false. */
+void use_late_drawing(void)
+{
+    static const unsigned values[7] = {0x01, 0x02, 0x04, 0x08, 0x10, 0x20, 0x40};
+    struct drawing d = {.contacts = 12, .outputs = 8};
+    for (unsigned j = 0; j < 7; j++) {
+        unsigned number[8];
+        for (unsigned i = 0; i < 8; i++)
+            number[i] = values[j] >> i & 1;
+        for (unsigned level = 11, count = 8; count > 1; level--, count /= 2)
+            for (unsigned i = 0; i < count / 2; i++)
+                number[i] = add_node(&d, level, number[2 * i], number[2 * i + 1]);
+        for (unsigned level = 9; level-- > 0;)
+            number[0] = add_node(&d, level, 0, number[0]);
+        d.output[j] = (uint8_t)number[0];
+    }
+    redraw(&dice, MOST_NODES, &d);
+    use_drawing(&d);
+}
+
+void use_empty_drawing(unsigned contacts)
+{
+    struct drawing d = {.contacts = contacts, .outputs = 8, .output = {0, 1, 1, 0, 1, 0, 0, 1}};
+    use_drawing(&d);
+}
+
+void use_wide_drawing(unsigned level)
+{
+    struct drawing d;
+    wide_drawing(&dice, 12, level, 9, &d);
+    redraw(&dice, MOST_NODES, &d);
+    use_drawing(&d);
+}

@@ -1,9 +1,9 @@
-/* What the benchmark's calls work on: tables, netlists, rails and holds. */
+/* What the benchmark's calls work on: tables, netlists, rails, holds and drawings. */
 #ifndef JOBS_H
 #define JOBS_H
 
 #include "../include/pilgodur.h"
-#include "../tests/tables.h"
+#include "../tests/drawings.h"
 
 enum { MOST_GATES = 10560, BUFFER = PILGODUR_SHEET_MAX }; /* a sheet is longer than what any other service writes */
 
@@ -18,6 +18,9 @@ struct job {
     uint8_t holds[3 * PILGODUR_LINES_MAX];
     size_t holds_length;
     uint8_t hold[3];
+    uint8_t drawing[DRAWING_MAX];
+    size_t drawing_length;
+    unsigned nodes;
 };
 
 extern struct dice dice;
@@ -38,6 +41,21 @@ void hold_lines(unsigned percent);
 
 /* Makes `hold` a hold of one line. */
 void set_hold(struct job *j, unsigned line, unsigned value);
+
+/* A drawing of the largest diagram with so many contacts, redrawn with so many nodes if it has fewer, and of one drawn at random, with
+ * a node for each of its own. */
+void use_largest_drawing(unsigned contacts, unsigned nodes);
+void use_random_drawing(unsigned contacts, unsigned outputs);
+
+/* A drawing of 12 contacts and 200 nodes with eight functions in nearly every level, which differ only while all contacts but the last
+ * three are closed. */
+void use_late_drawing(void);
+
+/* A drawing of so many contacts with constants as its eight outputs and no nodes. */
+void use_empty_drawing(unsigned contacts);
+
+/* A drawing of 12 contacts and 200 nodes that has nine functions in a level. */
+void use_wide_drawing(unsigned level);
 
 /* Makes `hold` the one that shows latest, and returns the input at which it does. */
 uint32_t hold_latest_line(void);

@@ -6,7 +6,7 @@
 #include <string.h>
 #include <time.h>
 
-enum { MOST_ROWS = 40, MOST_JOBS = 60 };
+enum { MOST_ROWS = 48, MOST_JOBS = 64 };
 
 struct row {
     char name[80];

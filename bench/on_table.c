@@ -38,18 +38,10 @@ enum status check(struct request *request, FILE *out)
     return ANSWERED;
 }
 
-/* With -o the netlist's bytes, else the hex: text of them. */
 enum status build(struct request *request, FILE *out)
 {
     struct netlist netlist = netlist_of(load_operand(request, 0), room);
-    if (request->output != NULL) {
-        fwrite(netlist.bytes, 1, netlist.length, out);
-        return ANSWERED;
-    }
-    fputs("hex:", out);
-    for (size_t i = 0; i < netlist.length; i++)
-        fprintf(out, "%02x", netlist.bytes[i]);
-    fputc('\n', out);
+    show_file(out, netlist.bytes, netlist.length, request->output == NULL);
     return ANSWERED;
 }
 

@@ -20,6 +20,7 @@ static const struct {
     int least, most; /* operands */
     unsigned takes;
 } commands[] = {
+    {"draw", draw, 1, 1, TAKES_OUTPUT},
     {"check", check, 1, 1, 0},
     {"build", build, 1, 1, TAKES_OUTPUT},
     {"list", list, 1, 1, 0},
@@ -42,6 +43,7 @@ static const struct option options[] = {
 static const char help[] =
     "usage: pilgodur COMMAND OPERAND... [OPTION...]\n"
     "\n"
+    "  draw DRAWING [-o FILE]          make the table of a drawing; without -o show it as hex: text\n"
     "  check TABLE                     ask the table's questions; show contacts, outputs, gates, depth and spare contacts\n"
     "  build TABLE [-o FILE]           build the netlist; without -o show it as hex: text\n"
     "  list TABLE|NETLIST              print the gate sheet: a row for each gate, then one for each output\n"
@@ -55,14 +57,17 @@ static const char help[] =
     "  export TABLE|NETLIST --blif|--verilog|--dot [-o FILE]\n"
     "                                  write the netlist for other tools, line 8 as the net l8\n"
     "\n"
-    "TABLE, NETLIST and RAILS are files: a path, @PATH, - for standard input, or hex: and digits for the bytes themselves. What\n"
-    "build shows is read back: a file or standard input may hold such hex: text, too.\n"
+    "DRAWING, TABLE, NETLIST and RAILS are files: a path, @PATH, - for standard input, or hex: and digits for the bytes\n"
+    "themselves. What draw and build show is read back: a file or standard input may hold such hex: text, too.\n"
+    "DRAWING may also be text: the line contacts N, the line outputs NODE..., then for each node a line NODE CONTACT ZERO ONE: its\n"
+    "name, the contact at which it looks, and the nodes to which it leads with that contact open and closed. A name has letters,\n"
+    "digits, _, - and .; 0 and 1 are the constants; # starts a comment.\n"
     "INPUT is a decimal number in which contact i has the weight 2^i, or contacts: and a sign for each contact, contact 0 first,\n"
     "1 closed and 0 open: contacts:110 is 3. RAILS has a byte 0 or 1 for each rail in line order; a path that reads like an input\n"
     "is written @PATH there. HOLD is LINE=VALUE, as in 10=0; several stand in rising order of lines.\n"
     "\n"
-    "  -o, --output FILE   write the answer to FILE, whole or not at all; build then writes the netlist's bytes. - is standard\n"
-    "                      output. FILE must not be one of the files read.\n"
+    "  -o, --output FILE   write the answer to FILE, whole or not at all; draw and build then write the file's bytes. - is\n"
+    "                      standard output. FILE must not be one of the files read.\n"
     "      --lines         also show the value of every line\n"
     "      --all           show every gate that differs\n"
     "      --blif, --verilog, --dot   the form of an export\n"
@@ -72,7 +77,7 @@ static const char help[] =
     "Options may stand anywhere; after -- every word is an operand.\n"
     "\n"
     "Exit status: 0 an answer; 1 a no: a refusal by a numbered question, or lists that differ; 2 a wrong command line; 3 a file\n"
-    "that cannot be read or written.\n";
+    "that cannot be read or written, or whose text is of no such form.\n";
 
 static _Noreturn void answer(const char *text)
 {

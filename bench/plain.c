@@ -501,3 +501,144 @@ pilgodur_built plain_sheet(const uint8_t *netlist, size_t netlist_len, uint8_t *
         text = put_row(text, gates_found + j, j, "OUT", output + 4 * j);
     return (pilgodur_built){0, (uint32_t)length};
 }
+
+/* ---- From a drawing to its table: truth tables of 64-bit words. ---- */
+
+enum { MOST_NODES = 200, WORDS = 4096 / 64 };
+
+struct drawing {
+    unsigned contacts, outputs, nodes;
+    const uint8_t *output, *node; /* one byte, three bytes each */
+};
+
+/* The truth table of each number of a drawing. Bit q is the value at the input in which contact l is bit n-1-l of q, so that fixing
+ * the first l contacts leaves 2^(n-l) bits in a row. */
+static uint64_t truth[2 + MOST_NODES][WORDS];
+
+/* The bits i of the places in a word. */
+static const uint64_t place_bit[6] = {
+    0xaaaaaaaaaaaaaaaa, 0xcccccccccccccccc, 0xf0f0f0f0f0f0f0f0, 0xff00ff00ff00ff00, 0xffff0000ffff0000, 0xffffffff00000000,
+};
+
+static bool leads_up(const struct drawing *d, unsigned level, unsigned edge)
+{
+    return edge < 2 || (edge < 2 + d->nodes && level < d->node[3 * (edge - 2)]);
+}
+
+/* Question 16. */
+static bool read_drawing(const uint8_t *file, size_t length, struct drawing *d)
+{
+    if (!is_contacts(file, length) || length < 7 || file[4] != 2 || two_bytes(file + 5) < 1 || two_bytes(file + 5) > 8)
+        return false;
+    size_t last = 7 + two_bytes(file + 5);
+    if (length < last + 3 || file[last] != 7)
+        return false;
+    size_t node_bytes = two_bytes(file + last + 1);
+    if (node_bytes % 3 != 0 || node_bytes > 3 * MOST_NODES || length != last + 3 + node_bytes)
+        return false;
+    *d = (struct drawing){file[3], (unsigned)last - 7, (unsigned)node_bytes / 3, file + 7, file + last + 3};
+    for (unsigned i = 0; i < d->nodes; i++) {
+        const uint8_t *node = d->node + 3 * i;
+        if (node[0] >= d->contacts || !leads_up(d, node[0], node[1]) || !leads_up(d, node[0], node[2]))
+            return false;
+    }
+    return all_below(d->output, d->outputs, 2 + d->nodes);
+}
+
+static void put_truth(const struct drawing *d, unsigned i, unsigned words)
+{
+    const uint8_t *node = d->node + 3 * i;
+    unsigned place = d->contacts - 1 - node[0];
+    const uint64_t *zero = truth[node[1]], *one = truth[node[2]];
+    for (unsigned w = 0; w < words; w++) {
+        uint64_t closed = place < 6 ? place_bit[place] : -(uint64_t)(w >> (place - 6) & 1);
+        truth[2 + i][w] = (closed & one[w]) | (~closed & zero[w]);
+    }
+}
+
+/* The truth tables of all nodes, the highest level first. */
+static void put_truths(const struct drawing *d)
+{
+    unsigned words = d->contacts <= 6 ? 1 : 1u << (d->contacts - 6);
+    memset(truth[0], 0, 8 * words);
+    memset(truth[1], 0xff, 8 * words);
+    for (unsigned level = d->contacts; level-- > 0;)
+        for (unsigned i = 0; i < d->nodes; i++)
+            if (d->node[3 * i] == level)
+                put_truth(d, i, words);
+}
+
+/* A function that is left with some contacts fixed: the bits of a truth table from one on. */
+struct part {
+    const uint64_t *truth;
+    unsigned from;
+};
+
+static bool same_bits(const struct part *a, const struct part *b, unsigned size)
+{
+    const uint64_t *x = a->truth + a->from / 64, *y = b->truth + b->from / 64;
+    if (size < 64)
+        return ((*x >> a->from % 64 ^ *y >> b->from % 64) & ((1ull << size) - 1)) == 0;
+    for (unsigned w = 0; w < size / 64; w++)
+        if (x[w] != y[w])
+            return false;
+    return true;
+}
+
+/* The functions of a level by first mention. */
+struct level {
+    unsigned width;
+    struct part part[8];
+};
+
+/* The place of a function of `size` bits in its level, where it is added if it was not there; 8 if it is the ninth. */
+static unsigned mention(struct level *level, unsigned size, struct part part)
+{
+    for (unsigned u = 0; u < level->width; u++)
+        if (same_bits(&level->part[u], &part, size))
+            return u;
+    if (level->width < 8)
+        level->part[level->width] = part;
+    return level->width < 8 ? level->width++ : 8;
+}
+
+/* Writes the edges of a level and makes the next; false if that has a ninth function. Behind the last level an edge is a bit. */
+static bool put_level(const struct level *level, unsigned size, struct level *next, uint8_t *at)
+{
+    for (unsigned u = 0; u < level->width; u++)
+        for (unsigned value = 0; value < 2; value++) {
+            struct part half = level->part[u];
+            half.from += value * size;
+            unsigned edge = size == 1 ? half.truth[half.from / 64] >> half.from % 64 & 1 : mention(next, size, half);
+            if (edge == 8)
+                return false;
+            *at++ = (uint8_t)edge;
+        }
+    return true;
+}
+
+pilgodur_built plain_from_drawing(const uint8_t *drawing, size_t drawing_len, uint8_t *table, size_t table_len)
+{
+    uint8_t made[PILGODUR_TABLE_MAX], *at = made;
+    struct drawing d;
+    struct level levels[13] = {{0}};
+    if (!read_drawing(drawing, drawing_len, &d))
+        return (pilgodur_built){16, 0};
+    put_truths(&d);
+    at = put_head(at, 1, 1);
+    *at++ = (uint8_t)d.contacts;
+    at = put_head(at, 2, d.outputs);
+    for (unsigned j = 0; j < d.outputs; j++)
+        *at++ = (uint8_t)mention(&levels[0], 1u << d.contacts, (struct part){truth[d.output[j]], 0});
+    for (unsigned l = 0; l < d.contacts; l++) {
+        at = put_head(at, 3, 2 * levels[l].width);
+        if (!put_level(&levels[l], 1u << (d.contacts - l - 1), &levels[l + 1], at))
+            return (pilgodur_built){17, 0};
+        at += 2 * levels[l].width;
+    }
+    size_t length = (size_t)(at - made);
+    if (table_len < length)
+        return (pilgodur_built){9, 0};
+    memcpy(table, made, length);
+    return (pilgodur_built){0, (uint32_t)length};
+}

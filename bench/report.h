@@ -8,7 +8,7 @@ enum status {
     ANSWERED = 0,
     SAID_NO = 1, /* a numbered question, or compare: the lists differ */
     MISUSED = 2, /* the command line is wrong */
-    FAILED = 3,  /* a file cannot be read or written */
+    FAILED = 3,  /* a file cannot be read or written, or its text is of no form */
 };
 
 /* The program that a message names; each program defines its own. */

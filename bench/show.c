@@ -1,10 +1,21 @@
 #include "show.h"
 
 #include <inttypes.h>
-#include <stdbool.h>
 
 #include "netlist.h"
 #include "operands.h"
+
+void show_file(FILE *out, const uint8_t *bytes, size_t length, bool as_text)
+{
+    if (!as_text) {
+        fwrite(bytes, 1, length, out);
+        return;
+    }
+    fputs("hex:", out);
+    for (size_t i = 0; i < length; i++)
+        fprintf(out, "%02x", bytes[i]);
+    fputc('\n', out);
+}
 
 const char *pair_meaning(unsigned yes, unsigned no)
 {

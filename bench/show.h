@@ -2,9 +2,13 @@
 #ifndef SHOW_H
 #define SHOW_H
 
+#include <stdbool.h>
 #include <stddef.h>
 #include <stdint.h>
 #include <stdio.h>
+
+/* A table or netlist: the hex: text of its bytes, or the bytes themselves, as with -o. */
+void show_file(FILE *out, const uint8_t *bytes, size_t length, bool as_text);
 
 /* The meaning of a pair. */
 const char *pair_meaning(unsigned yes, unsigned no);

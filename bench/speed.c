@@ -18,10 +18,12 @@ static const struct {
                     size_t);
     pilgodur_probed (*probe)(const uint8_t *, size_t, const uint8_t *, size_t, uint8_t *, size_t);
     pilgodur_built (*sheet)(const uint8_t *, size_t, uint8_t *, size_t);
+    pilgodur_built (*from_drawing)(const uint8_t *, size_t, uint8_t *, size_t);
 } services[SIDES] = {
-    [PLAIN] = {plain_check, plain_build, plain_read_off, plain_run, plain_probe, plain_sheet},
-    [TUNED] = {tuned_check, tuned_build, tuned_read_off, tuned_run, tuned_probe, tuned_sheet},
-    [LIBRARY] = {pilgodur_check, pilgodur_build, pilgodur_read_off, pilgodur_run, pilgodur_probe, pilgodur_sheet},
+    [PLAIN] = {plain_check, plain_build, plain_read_off, plain_run, plain_probe, plain_sheet, plain_from_drawing},
+    [TUNED] = {tuned_check, tuned_build, tuned_read_off, tuned_run, tuned_probe, tuned_sheet, tuned_from_drawing},
+    [LIBRARY] = {pilgodur_check, pilgodur_build, pilgodur_read_off, pilgodur_run, pilgodur_probe, pilgodur_sheet,
+                 pilgodur_from_drawing},
 };
 
 static uint64_t do_check(enum side side, const struct job *j)
@@ -73,6 +75,12 @@ static uint64_t do_probe_lines(enum side side, const struct job *j)
 static uint64_t do_sheet(enum side side, const struct job *j)
 {
     pilgodur_built r = services[side].sheet(j->netlist, j->netlist_length, written[side], BUFFER);
+    return r.refusal + 100 * (uint64_t)r.length;
+}
+
+static uint64_t do_from_drawing(enum side side, const struct job *j)
+{
+    pilgodur_built r = services[side].from_drawing(j->drawing, j->drawing_length, written[side], BUFFER);
     return r.refusal + 100 * (uint64_t)r.length;
 }
 
@@ -173,11 +181,30 @@ static void add_sheets(void)
     add_random_netlists("sheet, 10,560 gates, 4 netlists", do_sheet, 0);
 }
 
+static void add_drawings(void)
+{
+    use_largest_drawing(12, MOST_NODES);
+    add_row("from-drawing, 12 contacts, 200 nodes", do_from_drawing, 1);
+    use_late_drawing();
+    add_row("from-drawing, 12 contacts, 200 nodes, alike until late", do_from_drawing, 1);
+    use_random_drawing(12, 1);
+    add_row(label("from-drawing, 12 contacts, %u nodes", job.nodes), do_from_drawing, 1);
+    use_largest_drawing(6, 0);
+    add_row(label("from-drawing, 6 contacts, %u nodes", job.nodes), do_from_drawing, 1);
+    use_largest_drawing(2, 0);
+    add_row(label("from-drawing, 2 contacts, %u nodes", job.nodes), do_from_drawing, 1);
+    use_empty_drawing(12);
+    add_row("from-drawing, 12 contacts, no nodes", do_from_drawing, 1);
+    use_wide_drawing(10);
+    add_row("from-drawing, 12 contacts, 200 nodes, refused by 17", do_from_drawing, 1);
+}
+
 int main(void)
 {
     printf("Processor time for one call in microseconds, in the fastest of %d rounds, and the library's time divided by\n"
            "the others': below 1 the library is faster. \"seen at\": the held line that shows latest of all, at this input.\n"
-           "\"mean\": over %d lines spread evenly, each at both values.\n\n", ROUNDS, SPREAD);
+           "\"mean\": over %d lines spread evenly, each at both values. \"alike until late\": the functions differ only in\n"
+           "values that come last.\n\n", ROUNDS, SPREAD);
     fflush(stdout);
     add_tables(12);
     add_tables(6);
@@ -185,5 +212,6 @@ int main(void)
     add_runs();
     add_probes();
     add_sheets();
+    add_drawings();
     return measure_rows() == 1 ? 3 : 0;
 }

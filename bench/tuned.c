@@ -660,3 +660,153 @@ pilgodur_built tuned_sheet(const uint8_t *netlist, size_t netlist_len, uint8_t *
     }
     return (pilgodur_built){0, length};
 }
+
+/* ---- From a drawing to its table: no truth tables. Each function is made once and gets a number, so that functions are equal exactly
+ * if their numbers are. ---- */
+
+enum { MOST_NODES = 200, NUMBERS = 2 + MOST_NODES, SLOTS = 512 };
+
+struct drawing {
+    unsigned contacts, outputs, nodes;
+    const uint8_t *output, *node;
+};
+
+static bool find_nodes(const uint8_t *file, size_t length, struct drawing *d)
+{
+    if (length < 8 || file[0] != 1 || file[1] != 0 || file[2] != 1 || file[3] - 1u > 11 || file[4] != 2 || file[5] != 0 ||
+        file[6] - 1u > 7)
+        return false;
+    size_t last = 7 + (size_t)file[6];
+    if (length < last + 3 || file[last] != 7)
+        return false;
+    unsigned size = two_bytes(file + last + 1);
+    *d = (struct drawing){file[3], file[6], size / 3, file + 7, file + last + 3};
+    return size % 3 == 0 && size <= 3 * MOST_NODES && length == last + 3 + size;
+}
+
+/* Question 16. A number that is not listed has level 0, to which no edge may lead. Of nodes whose level is not below n the one with
+ * the highest leads nowhere, so that need not be asked. */
+static bool read_drawing(const uint8_t *file, size_t length, struct drawing *d)
+{
+    uint8_t level[256] = {0};
+    bool bad = false;
+    if (!find_nodes(file, length, d))
+        return false;
+    level[0] = level[1] = (uint8_t)d->contacts;
+    for (unsigned i = 0; i < d->nodes; i++)
+        level[2 + i] = d->node[3 * i];
+    for (const uint8_t *node = d->node; node < d->node + 3 * d->nodes; node += 3)
+        bad |= (level[node[1]] <= node[0]) | (level[node[2]] <= node[0]);
+    for (unsigned j = 0; j < d->outputs; j++)
+        bad |= d->output[j] >= 2 + d->nodes;
+    return !bad;
+}
+
+/* The nodes by level, the highest first. */
+static void sort_nodes(const struct drawing *d, uint8_t order[MOST_NODES])
+{
+    unsigned place[13] = {0};
+    for (unsigned i = 0; i < d->nodes; i++)
+        place[d->node[3 * i]]++;
+    for (unsigned l = 12; l-- > 0;)
+        place[l] += place[l + 1];
+    for (unsigned i = 0; i < d->nodes; i++)
+        order[--place[d->node[3 * i]]] = (uint8_t)i;
+}
+
+/* The functions that there are. A key is the first contact on which the function depends, and the functions that are left with it open
+ * and closed, a byte each; functions 0 and 1 are the constants. A slot is 0 or a function whose key led there. */
+struct functions {
+    unsigned count;
+    uint32_t key[NUMBERS];
+    uint8_t slot[SLOTS];
+};
+
+static uint8_t function_of(struct functions *f, uint32_t key)
+{
+    uint32_t s = key * 0x9e3779b1u >> 23;
+    while (f->slot[s] != 0 && f->key[f->slot[s]] != key)
+        s = (s + 1) % SLOTS;
+    if (f->slot[s] == 0) {
+        f->key[f->count] = key;
+        f->slot[s] = (uint8_t)f->count++;
+    }
+    return f->slot[s];
+}
+
+/* Gives each number of the drawing its function. */
+static void find_functions(const struct drawing *d, struct functions *f, uint8_t function[NUMBERS])
+{
+    uint8_t order[MOST_NODES];
+    sort_nodes(d, order);
+    f->count = 2;
+    f->key[0] = f->key[1] = d->contacts << 16;
+    memset(f->slot, 0, sizeof f->slot);
+    function[0] = 0;
+    function[1] = 1;
+    for (unsigned k = 0; k < d->nodes; k++) {
+        const uint8_t *node = d->node + 3 * order[k];
+        unsigned zero = function[node[1]], one = function[node[2]];
+        function[2 + order[k]] = (uint8_t)(zero == one ? zero : function_of(f, (uint32_t)node[0] << 16 | zero << 8 | one));
+    }
+}
+
+/* The functions of a level by first mention, and where each function was mentioned last: 16 times the level, and its place there.
+ * Level 0 is counted as 1 there. */
+struct mentions {
+    unsigned width;
+    uint8_t function[16];
+    uint8_t place[NUMBERS];
+};
+
+static uint8_t place_of(struct mentions *m, unsigned level, unsigned function)
+{
+    if (m->place[function] >> 4 != level + 1) {
+        m->place[function] = (uint8_t)((level + 1) << 4 | m->width);
+        m->function[m->width++] = (uint8_t)function;
+    }
+    return m->place[function] & 15;
+}
+
+/* Writes the field of a level and goes on to the next. */
+static uint8_t *put_level(const struct functions *f, struct mentions *m, unsigned level, unsigned contacts, uint8_t *at)
+{
+    uint8_t now[8];
+    unsigned width = m->width;
+    memcpy(now, m->function, 8);
+    m->width = 0;
+    memcpy(at, (uint8_t[]){3, 0, (uint8_t)(2 * width)}, 3);
+    at += 3;
+    for (unsigned u = 0; u < width; u++, at += 2) {
+        uint32_t key = f->key[now[u]];
+        bool looks = key >> 16 == level;
+        unsigned zero = looks ? key >> 8 & 255 : now[u], one = looks ? key & 255 : now[u];
+        at[0] = level + 1 == contacts ? (uint8_t)zero : place_of(m, level + 1, zero);
+        at[1] = level + 1 == contacts ? (uint8_t)one : place_of(m, level + 1, one);
+    }
+    return at;
+}
+
+pilgodur_built tuned_from_drawing(const uint8_t *drawing, size_t drawing_len, uint8_t *table, size_t table_len)
+{
+    uint8_t made[PILGODUR_TABLE_MAX], function[NUMBERS], *at = made + 7;
+    struct drawing d;
+    struct functions f;
+    struct mentions m = {0};
+    if (!read_drawing(drawing, drawing_len, &d))
+        return (pilgodur_built){16, 0};
+    find_functions(&d, &f, function);
+    memcpy(made, (uint8_t[]){1, 0, 1, (uint8_t)d.contacts, 2, 0, (uint8_t)d.outputs}, 7);
+    for (unsigned j = 0; j < d.outputs; j++)
+        *at++ = place_of(&m, 0, function[d.output[j]]);
+    for (unsigned l = 0; l < d.contacts; l++) {
+        at = put_level(&f, &m, l, d.contacts, at);
+        if (m.width > 8)
+            return (pilgodur_built){17, 0};
+    }
+    size_t length = (size_t)(at - made);
+    if (table_len < length)
+        return (pilgodur_built){9, 0};
+    memcpy(table, made, length);
+    return (pilgodur_built){0, (uint32_t)length};
+}

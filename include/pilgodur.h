@@ -9,6 +9,11 @@
  *   Netlist: tag 1 as above.
  *            tag 4, five bytes a gate (0 to 10,560): kind (0 AND, 1 OR), then two source lines of two bytes each.
  *            tag 5, four bytes an output (1 to 8): its true line, then its false line.
+ *   Drawing: tag 1 as above.
+ *            tag 2, one byte for each output (1 to 8): a constant or a node.
+ *            tag 7, three bytes for each node (0 to 200): its level (0 to n-1), its 0-edge and its 1-edge. Numbers 0 and 1 are the
+ *            constants false and true, 2 is the first node. A node of level l looks at contact l. An edge leads to a constant or
+ *            to a node of a higher level, and may skip levels; nodes may be alike, and nothing need mention a node.
  *
  * LINES. 0 and 1 are the constants. The true rail of contact i is 2+2i, its false rail 3+2i. Gate g, counted from 0, is 2+2n+g.
  * A netlist with n contacts and g gates has 2+2n+g lines. A pair is written true rail first: 10 is yes, 01 is no, 00 and 11 are
@@ -36,7 +41,7 @@
  * Bytes of a buffer past those that are written keep their values.
  *
  * MEMORY. No heap and no data of the library's own, so calls from several threads do not meet. Stack: some 80 KB for check, 60 KB
- * for build, 270 KB for probe, little for the others.
+ * for build, 270 KB for probe, 110 KB for from-drawing, little for the others.
  */
 #ifndef PILGODUR_H
 #define PILGODUR_H
@@ -48,9 +53,9 @@
 extern "C" {
 #endif
 
-#define PILGODUR_VERSION "2.0.0"
+#define PILGODUR_VERSION "2.1.0"
 #define PILGODUR_VERSION_MAJOR 2
-#define PILGODUR_VERSION_MINOR 0
+#define PILGODUR_VERSION_MINOR 1
 #define PILGODUR_VERSION_PATCH 0
 
 /* The questions, as Q(number, name, text) for each. A no to question 6 is the refusal 6, PILGODUR_REFUSAL_TWINS. Number 8 is never
@@ -71,7 +76,12 @@ extern "C" {
     Q(13, PILGODUR_REFUSAL_RAILS, "Are there 2n rail bytes, in line order, each 0 or 1?") \
     Q(14, PILGODUR_REFUSAL_HOLDS, "Are the holds whole, each naming a line from 2 up that is in the netlist, with value 0 or 1, " \
       "lines strictly rising?") \
-    Q(15, PILGODUR_REFUSAL_UNREAD, "Does some gate or output read the line?")
+    Q(15, PILGODUR_REFUSAL_UNREAD, "Does some gate or output read the line?") \
+    Q(16, PILGODUR_REFUSAL_DRAWING, "Does the drawing have whole fields of tags 1, 2, 7 in that order and no more, tag 1 as in " \
+      "question 2, tag 2 of 1 to 8 outputs, tag 7 of 0 to 200 whole nodes, every level below n, every edge to a constant or a " \
+      "listed node of a higher level, every output a constant or a listed node?") \
+    Q(17, PILGODUR_REFUSAL_FUNCTIONS, "For every count of first contacts below n, does fixing them leave at most eight different " \
+      "functions over all outputs?")
 
 #define PILGODUR_REFUSAL_(number, name, text) name = number,
 enum pilgodur_refusal { PILGODUR_REFUSAL_NONE = 0, PILGODUR_QUESTIONS(PILGODUR_REFUSAL_) };
@@ -85,6 +95,7 @@ enum pilgodur_way { PILGODUR_WAY_BOTH_LOW = 0, PILGODUR_WAY_BOTH_HIGH = 1 };
 #define PILGODUR_LINES_MAX 10586 /* the lines of a netlist: 2 + 2 * 12 + 10560 */
 #define PILGODUR_PAIRS_MAX 16 /* two bytes an output */
 #define PILGODUR_SHEET_MAX 237160 /* a gate sheet: 22 * (10560 + 8) for the rows, 22 * 212 for the headings */
+#define PILGODUR_TABLE_MAX 243 /* a table: 4 + (3 + 8) + 12 * (3 + 2 * 8) */
 
 /* A refusal is one of enum pilgodur_refusal, a way one of enum pilgodur_way. */
 typedef struct { uint32_t refusal, contacts, outputs, gates, depth; } pilgodur_checked;
@@ -124,6 +135,12 @@ pilgodur_probed pilgodur_probe(const uint8_t *table, size_t table_len, const uin
 /* Writes the gate sheet of a netlist, built by pilgodur_build or not. Questions 11 and 12, then 9. Writes the sheet to the start of
  * text and returns its length; text needs at least that length. */
 pilgodur_built pilgodur_sheet(const uint8_t *netlist, size_t netlist_len, uint8_t *text, size_t text_len);
+
+/* Makes the table of a drawing's functions. Questions 16, 17, then 9. The value of an output at an input: start at its number; from a
+ * node go by the 1-edge if its contact is 1, else by the 0-edge, until a constant is reached. Writes to the start of table the one
+ * accepted table with the drawing's contacts and outputs that has these values, and returns its length; table needs at least that
+ * length. Two drawings with the same contacts and the same values give the same table. */
+pilgodur_built pilgodur_from_drawing(const uint8_t *drawing, size_t drawing_len, uint8_t *table, size_t table_len);
 
 #ifdef __cplusplus
 }

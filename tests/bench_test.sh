@@ -161,6 +161,143 @@ try list hex:0100010104000005000400020004
 try list hex:0100010d0400000500040002001b
 judge
 
+# A drawing of the selector's functions that repeats a node, and has one that nothing mentions and that skips levels.
+selector_drawing=hex:0100010302000103070012010500000206000001020001010701020001
+# Five functions of contact 0 that lead to nine of the other two; without the last output they lead to eight.
+cat >nine.drawing <<end
+contacts 3
+outputs a b c d e
+a 0 s0 s1
+b 0 s2 s3
+c 0 s4 s5
+d 0 s6 s7
+e 0 s0 s8
+s0 1 x 0
+s1 1 0 x
+s2 1 x 1
+s3 1 1 x
+s4 1 y 0
+s5 1 0 y
+s6 1 y 1
+s7 1 1 y
+s8 1 x y
+x 2 0 1
+y 2 1 0
+end
+sed 's/ e$//' nine.drawing >eight.drawing
+# nodes COUNT OUTPUTS: text with so many nodes and these outputs; each node leads to the one after it, by turns by its 0-edge.
+nodes() {
+    awk -v count="$1" -v outputs="$2" 'BEGIN {
+        print "contacts 12\noutputs", outputs
+        for (i = 0; i < count; i++) {
+            next_node = i % 12 < 11 && i + 1 < count ? "n" i + 1 : 0
+            print "n" i, i % 12, i % 2 == 0 ? next_node : 1, i % 2 == 0 ? 1 : next_node
+        }
+    }'
+}
+# text LINE...: draws from these lines.
+text() {
+    printf '%s\n' "$@" | pilgodur draw -
+}
+
+transcript draw
+try draw gallery.drawing
+try draw gallery.drawing -o gallery.table
+pipe 'pilgodur draw @gallery.drawing | pilgodur check -'
+pipe 'pilgodur draw - <gallery.drawing | pilgodur list -'
+pipe 'pilgodur draw gallery.drawing -o - | cmp - gallery.table'
+pipe 'pilgodur draw gallery.drawing | pilgodur compare - gallery.table'
+try draw $selector_drawing
+pipe 'pilgodur draw $selector_drawing -o - | cmp - selector.table'
+pipe 'echo "$selector_drawing" >selector.hex; pilgodur draw selector.hex -o - | cmp - selector.table'
+# The same drawing with other line ends, blanks, comments and names, and with its nodes in another sequence.
+pipe 'sed "s/\$/\r/" gallery.drawing | pilgodur draw -o - - | cmp - gallery.table'
+pipe 'tr " " "\t" <gallery.drawing | pilgodur draw -o - - | cmp - gallery.table'
+pipe 'sed "/^draft/d; s/ *#.*//; /^\$/d" gallery.drawing | pilgodur draw -o - - | cmp - gallery.table'
+pipe 'sed "s/travel/contacts/; s/west/outputs/g; s/parked/2/g; s/east/00/g" gallery.drawing | pilgodur draw -o - - | cmp - gallery.table'
+pipe '{ sed -n "/^[co]/p" gallery.drawing; sed "/^[#co]/d" gallery.drawing | sort; } | pilgodur draw -o - - | cmp - gallery.table'
+pipe 'printf "\n\r\n # \n\tcontacts\t01 # one\noutputs a#b\n\na 0 0 1#" | pilgodur draw -'
+# Constants as outputs, a node with equal edges, the longest names, as many nodes as there may be.
+try draw 'hex:01000101 02000100 070000'
+try draw 'hex:01000102 020003000102 070003010101'
+try draw 'hex:0100010c 0200080001020001020001 0700030b0001'
+pipe 'text "contacts 3" "outputs 0 1 1"'
+pipe 'text "contacts 12" "outputs -._Az09" "-._Az09 11 1 0"'
+pipe 'a=$(printf "%0200d" 7); text "contacts 1" "outputs $a" "$a 0 0 1"'
+pipe 'nodes 200 "n0 n12 n24 n199" | pilgodur draw -'
+# Question 17, with and without the ninth function; one that nothing mentions does not count.
+try draw eight.drawing
+try draw nine.drawing
+try draw nine.drawing -o gallery.table
+pipe 'pilgodur draw gallery.drawing -o - | cmp - gallery.table'
+# Question 16: fields.
+for drawing in '' 01 0100 010001 01000101 0100010102 01000101020001 01000101020001000700 0100010102000100070003 \
+    02000101 01000001 0100020101 01000100 0100010d 010001ff 0100010103000100 01000101020000070000 010001010200010003000200 \
+    01000101020009000000000000000000070000 0100010102000100080000 010001010200010007000100 0100010102000100070004000001 \
+    01000101020001000700020000 010001010200010007000000 010001010200010007000007 0100010102000100070000070000; do
+    try draw "hex:$drawing"
+done
+try draw selector.table
+try draw selector.netlist
+# Question 16: numbers, levels and edges.
+for outputs_and_nodes in 02000102070000 0200020003070003000001 02000103070003010001 02000102070003020001 020001020700030c0001 \
+    0200010207000300ff01 02000102070003000003 02000102070003000201 02000102070006000301000001 02000102070006010301000001 \
+    02000103070006000001010102; do
+    try draw "hex:01000102$outputs_and_nodes"
+done
+pipe '{ printf "\001\0\001\002\002\0\001\0\007\002\133"; head -c 603 /dev/zero; } | pilgodur draw -'
+pipe 'text "contacts 0" "outputs 0"'
+pipe 'text "contacts 13" "outputs 0"'
+pipe 'text "contacts 255" "outputs 0"'
+pipe 'text "contacts 2" outputs "a 0 0 1"'
+pipe 'text "contacts 2" "outputs 0 0 0 0 0 0 0 0 0"'
+pipe 'text "contacts 2" "outputs $(yes 1 | head -n 70000 | tr "\n" " ")"'
+pipe 'text "contacts 2" "outputs a" "a 2 0 1"'
+pipe 'text "contacts 2" "outputs 0" "# far" "a 255 0 1"'
+pipe 'text "contacts 2" "outputs a" "" "a 1 b 1" "b 0 0 1"'
+pipe 'text "contacts 2" "outputs a" "a 0 b 1" "b 0 0 1" "c 5 0 1"'
+pipe 'text "contacts 2" "outputs b" "b 0 0 1" "unused 1 1 unused"'
+pipe 'a=$(printf "%0200d" 7); text "contacts 1" "outputs $a" "$a 0 0 $a"'
+for count in 201 253 254 255 300 22000; do
+    pipe "nodes $count n0 | pilgodur draw -"
+done
+pipe 'nodes 300 n299 | pilgodur draw -'
+# Text that is of no form.
+pipe 'printf "# nothing\n\n" | pilgodur draw -'
+pipe 'text "contacts 3"'
+pipe 'text "" "contact 3"'
+pipe 'text contacts'
+pipe 'text "contacts 3 4"'
+pipe 'text "contacts three"'
+pipe 'text "contacts -1"'
+pipe 'text "contacts 256"'
+pipe 'text "contacts 4294967297" "outputs 0"'
+pipe 'text "contacts 3" "# outputs" "a 0 0 1"'
+pipe 'text "outputs a" "contacts 3"'
+pipe 'text "contacts 3" "outputs a b" "a 0 0 1"'
+pipe 'text "contacts 3" "outputs 2" "a 0 0 1"'
+pipe 'text "contacts 3" "outputs a" "a 0 0 1" "b 0 0"'
+pipe 'text "contacts 3" "outputs a" "a 0 0 1 1"'
+pipe 'text "contacts 3" "outputs a" "a x 0 1"'
+pipe 'text "contacts 3" "outputs a" "a 300 0 1"'
+pipe 'text "contacts 3" "outputs a" "a 0 0 b"'
+pipe 'text "contacts 3" "outputs a" "a 0 A 1"'
+pipe 'text "contacts 3" "outputs a" "a 0 0 1" "b 1 0 1" "a 2 0 1"'
+pipe 'text "contacts 3" "outputs 0" "1 0 0 1"'
+pipe 'text "contacts 3" "outputs a:b"'
+pipe 'printf "contacts 1\noutputs a\na 0 0 1\0\n" | pilgodur draw -'
+pipe 'printf "\357\273\277contacts 1\noutputs 0\n" | pilgodur draw -'
+pipe '{ nodes 22000 n0; echo n5 0 0 1; } | pilgodur draw -'
+pipe 'nodes 22000 n22000 | pilgodur draw -'
+pipe 'printf "contacts 1" >bad.drawing; pilgodur draw bad.drawing -o gallery.table; pilgodur draw gallery.drawing | pilgodur compare - gallery.table'
+try draw hex:636f6e74616374733120
+try draw hex:010
+try draw no-such.drawing
+try draw
+try draw gallery.drawing --lines
+try draw gallery.drawing -o gallery.drawing
+judge
+
 transcript hex
 pipe 'pilgodur build selector.table | pilgodur list -'
 pipe 'pilgodur build selector.table >selector.hex; pilgodur compare selector.hex selector.table'

@@ -1,5 +1,5 @@
-/* Compares the library with the reference, call by call, on boards with spare contacts in every place and on random cases, and asks
- * the demands of boards that the library builds.
+/* Compares the library with the reference, call by call, on boards with spare contacts in every place, on drawings of every kind and
+ * on random cases, and asks the demands of boards that the library builds and of tables that it makes from drawings.
  *
  *     compare [SEED [CASES]]
  *
@@ -20,27 +20,30 @@
 #include "lent.h"
 #include "reference.h"
 
-enum { STRINGS = 5, NUMBERS = 5, REFUSALS = 16, NOISE = 1 << 19, MOST_DIFFERENCES = 10 };
-enum service { CHECK, BUILD, READ_OFF, RUN, PROBE, SHEET, SERVICES };
+_Static_assert(PILGODUR_TABLE_MAX == TABLE_MAX, "the length of the longest table");
+
+enum { STRINGS = 5, NUMBERS = 5, REFUSALS = 18, NOISE = 1 << 19, MOST_DIFFERENCES = 10 };
+enum service { CHECK, BUILD, READ_OFF, RUN, PROBE, SHEET, FROM_DRAWING, SERVICES };
 enum side { LIBRARY, REFERENCE, SIDES };
 
-static const char *const service_names[SERVICES] = {"check", "build", "read-off", "run", "probe", "sheet"};
+static const char *const service_names[SERVICES] = {"check", "build", "read-off", "run", "probe", "sheet", "from-drawing"};
 static const char *const side_names[SIDES] = {"library", "reference"};
-static const unsigned string_counts[SERVICES] = {1, 2, 1, 5, 3, 2};
-static const unsigned number_counts[SERVICES] = {5, 2, 2, 1, 4, 2};
+static const unsigned string_counts[SERVICES] = {1, 2, 1, 5, 3, 2, 2};
+static const unsigned number_counts[SERVICES] = {5, 2, 2, 1, 4, 2, 2};
 static const char *const string_names[SERVICES][STRINGS] = {
     {"table"}, {"table", "file"}, {"table"}, {"netlist", "rails", "holds", "lines", "pairs"}, {"table", "hold", "buffer"},
-    {"netlist", "text"}};
+    {"netlist", "text"}, {"drawing", "table"}};
 static const char *const number_names[SERVICES][NUMBERS] = {
     {"refusal", "contacts", "outputs", "gates", "depth"},
     {"refusal", "length"},
     {"refusal", "word"},
     {"refusal"},
     {"refusal", "input", "output", "way"},
+    {"refusal", "length"},
     {"refusal", "length"}};
 
 /* The numbers that each service can give, as a set of bits. */
-static const unsigned possible[SERVICES] = {0xff, 0x2ff, 0x4ff, 0x7a01, 0xc2ff, 0x1a01};
+static const unsigned possible[SERVICES] = {0xff, 0x2ff, 0x4ff, 0x7a01, 0xc2ff, 0x1a01, 0x30201};
 
 /* Sizes of netlists whose sheets are compared again and again: about the end of a page, with no gates, and the largest. */
 static const struct size {
@@ -73,6 +76,11 @@ static unsigned long hits[SERVICES][REFUSALS];
 static unsigned long accepted_contacts[13], accepted_outputs[9], accepted_width[9], accepted_spare[13], spare_place[12];
 static unsigned long with_constant, all_constant, eleven_spare_of_12;
 static unsigned long sheets[SHEET_SIZES];
+static unsigned long drawn_contacts[13], malformed[MALFORMATIONS];
+static unsigned long at_eight[13][12], at_nine[13][12]; /* drawings by contacts and level */
+static struct {
+    unsigned long no_nodes, all_nodes, skipping, repeating, unmentioned, constant_outputs, upward, downward;
+} drawn;
 static struct demands demands;
 static char where[160]; /* what is being done, for the message after a fault */
 
@@ -97,6 +105,9 @@ static struct answer perform(enum side side, const struct call *call)
                                                       s[2].length, s[3].bytes, s[3].length, s[4].bytes, s[4].length);
     } else if (call->service == SHEET) {
         pilgodur_built r = (ours ? pilgodur_sheet : ref_sheet)(s[0].bytes, s[0].length, s[1].bytes, s[1].length);
+        a = (struct answer){{r.refusal, r.length}};
+    } else if (call->service == FROM_DRAWING) {
+        pilgodur_built r = (ours ? pilgodur_from_drawing : ref_from_drawing)(s[0].bytes, s[0].length, s[1].bytes, s[1].length);
         a = (struct answer){{r.refusal, r.length}};
     } else {
         pilgodur_probed r = (ours ? pilgodur_probe : ref_probe)(s[0].bytes, s[0].length, s[1].bytes, s[1].length, s[2].bytes,
@@ -445,6 +456,202 @@ static void compare_sizes(void)
     }
 }
 
+/* ---- Drawings. ---- */
+
+static bool is_mentioned(const struct drawing *drawing, unsigned number)
+{
+    bool found = memchr(drawing->output, (int)number, drawing->outputs) != NULL;
+    for (unsigned i = 0; i < drawing->nodes; i++)
+        found = found || drawing->node[i].edge[0] == number || drawing->node[i].edge[1] == number;
+    return found;
+}
+
+static bool is_repeated(const struct drawing *drawing, unsigned node)
+{
+    for (unsigned i = 0; i < node; i++)
+        if (memcmp(&drawing->node[i], &drawing->node[node], sizeof drawing->node[i]) == 0)
+            return true;
+    return false;
+}
+
+/* Notes of what kind a drawing is whose table was made. */
+static void note_drawing(const struct drawing *drawing)
+{
+    bool skipping = false, repeating = false, unmentioned = false, constant = false, upward = false, downward = false;
+    for (unsigned i = 0; i < drawing->nodes; i++) {
+        for (unsigned k = 0; k < 2; k++) {
+            unsigned edge = drawing->node[i].edge[k];
+            unsigned level = edge < 2 ? drawing->contacts : drawing->node[edge - 2].level;
+            skipping = skipping || level > drawing->node[i].level + 1u;
+            upward = upward || edge > 2 + i;
+            downward = downward || (1 < edge && edge < 2 + i);
+        }
+        repeating = repeating || is_repeated(drawing, i);
+        unmentioned = unmentioned || !is_mentioned(drawing, 2 + i);
+    }
+    for (unsigned j = 0; j < drawing->outputs; j++)
+        constant = constant || drawing->output[j] < 2;
+    drawn_contacts[drawing->contacts]++;
+    drawn.no_nodes += drawing->nodes == 0;
+    drawn.all_nodes += drawing->nodes == MOST_NODES;
+    drawn.skipping += skipping;
+    drawn.repeating += repeating;
+    drawn.unmentioned += unmentioned;
+    drawn.constant_outputs += constant;
+    drawn.upward += upward;
+    drawn.downward += downward;
+}
+
+/* One call with a buffer of some length; returns its number. */
+static uint32_t drawing_call(const struct file *file)
+{
+    uint8_t table[TABLE_MAX];
+    struct call call = {.service = FROM_DRAWING};
+    size_t need = ref_from_drawing(file->bytes, file->length, table, sizeof table).length;
+    give(&call, 0, file);
+    lend_buffer(&call, 1, need != 0 ? need : roll(&dice, TABLE_MAX + 1));
+    return compare(&call);
+}
+
+static void good_drawing(const struct drawing *drawing)
+{
+    static struct file file;
+    file.length = write_drawing(drawing, file.bytes);
+    if (drawing_call(&file) == 0)
+        note_drawing(drawing);
+}
+
+/* A drawing whose number is known, in buffers that are as long as needed, one byte short, longer, and of no length. The table, if one
+ * is named, must be the answer. */
+static void expect_drawing(const struct file *file, uint32_t number, const struct file *table)
+{
+    uint8_t made[TABLE_MAX];
+    size_t need = ref_from_drawing(file->bytes, file->length, made, sizeof made).length;
+    need = need != 0 ? need : TABLE_MAX;
+    const size_t lengths[] = {need, need - 1, need + 1 + roll(&dice, 40), 0};
+    if (table != NULL && (need != table->length || memcmp(made, table->bytes, need) != 0)) {
+        printf("difference after case %lu, seed %" PRIu64 ": the reference makes another table than the drawing is of\n", cases, seed);
+        differences++;
+    }
+    for (unsigned k = 0; k < sizeof lengths / sizeof *lengths; k++) {
+        struct call call = {.service = FROM_DRAWING};
+        give(&call, 0, file);
+        lend_noise(&call, 1, need, lengths[k]);
+        expect(&call, number == 0 && lengths[k] < need ? 9 : number);
+    }
+}
+
+/* Drawings of an accepted table: as it is, and drawn otherwise with so many nodes. The table comes back. */
+static void expect_table(const struct diagram *diagram, unsigned nodes)
+{
+    static struct file file, table;
+    struct drawing drawing;
+    table.length = table_of(diagram, table.bytes);
+    drawing_of(diagram, &drawing);
+    for (unsigned k = 0; k < 2; k++) {
+        file.length = write_drawing(&drawing, file.bytes);
+        expect_drawing(&file, 0, &table);
+        note_drawing(&drawing);
+        redraw(&dice, nodes, &drawing);
+    }
+    good_drawing(&drawing);
+}
+
+/* A drawing with so many functions in a level, redrawn. */
+static void expect_wide(unsigned contacts, unsigned level, unsigned functions)
+{
+    static struct file file;
+    struct drawing drawing;
+    unsigned count[12];
+    wide_drawing(&dice, contacts, level, functions, &drawing);
+    redraw(&dice, roll(&dice, 100), &drawing);
+    file.length = write_drawing(&drawing, file.bytes);
+    expect_drawing(&file, functions > 8 ? 17 : 0, NULL);
+    count_functions(&drawing, count);
+    at_eight[contacts][level] += count[level] == 8;
+    at_nine[contacts][level] += count[level] == 9;
+}
+
+static void expect_malformed(enum malformation kind, const struct drawing *good)
+{
+    static struct file file;
+    if (kind == EDGE_TO_LOWER_LEVEL && good->contacts == 1)
+        return;
+    malformed_drawing(&dice, kind, good, &file);
+    expect_drawing(&file, 16, NULL);
+    malformed[kind]++;
+}
+
+/* Constants as all outputs, with no nodes: the table of a diagram in which every contact is spare. */
+static void expect_constants(unsigned contacts, unsigned outputs)
+{
+    struct diagram diagram = {.outputs = outputs, .width = {2}};
+    struct drawing drawing = {.contacts = contacts, .outputs = outputs};
+    static struct file file, table;
+    for (unsigned j = 0; j < outputs; j++)
+        drawing.output[j] = diagram.output[j] = (uint8_t)roll(&dice, 2);
+    while (diagram.contacts < contacts)
+        insert_spare_contact(&diagram, 0);
+    file.length = write_drawing(&drawing, file.bytes);
+    table.length = table_of(&diagram, table.bytes);
+    expect_drawing(&file, 0, &table);
+    note_drawing(&drawing);
+}
+
+/* For so many contacts: no nodes, 200 nodes, every way to be malformed, and eight and nine functions in each level that can have so
+ * many: the last one has at most four, and the first one at most as many as there are outputs. */
+static void compare_drawings(unsigned contacts)
+{
+    struct diagram diagram;
+    struct drawing drawing;
+    for (unsigned outputs = 1; outputs <= 8; outputs++) {
+        expect_constants(contacts, outputs);
+        random_diagram(&dice, contacts, outputs, &diagram);
+        expect_table(&diagram, outputs % 2 == 0 ? MOST_NODES : roll(&dice, MOST_NODES));
+    }
+    widest_diagram(&dice, contacts, &diagram);
+    expect_table(&diagram, MOST_NODES);
+    for (unsigned kind = 0; kind < MALFORMATIONS; kind++)
+        for (unsigned nodes = 0; nodes <= 198; nodes += 66) {
+            random_drawing(&dice, contacts, 1 + roll(&dice, 8), nodes, &drawing);
+            expect_malformed((enum malformation)kind, &drawing);
+        }
+    for (unsigned level = 0; level + 1 < contacts; level++) {
+        expect_wide(contacts, level, 8);
+        if (level > 0)
+            expect_wide(contacts, level, 9);
+    }
+}
+
+/* A drawing: random, of a table, of a level that is wide, malformed, or good but for some bytes. */
+static void drawing_case(void)
+{
+    static struct file file;
+    struct diagram diagram;
+    struct drawing drawing;
+    unsigned kind = roll(&dice, 100), contacts = 1 + roll(&dice, 12);
+    random_drawing(&dice, contacts, 1 + roll(&dice, 8), roll(&dice, chance(&dice, 70) ? 20 : 199), &drawing);
+    file.length = write_drawing(&drawing, file.bytes);
+    if (kind < 55) {
+        good_drawing(&drawing);
+    } else if (kind < 65) {
+        draw_diagram(&diagram);
+        expect_table(&diagram, roll(&dice, MOST_NODES + 1));
+    } else if (kind < 75 && contacts > 2) {
+        expect_wide(contacts, 1 + roll(&dice, contacts - 2), 7 + roll(&dice, 4));
+    } else if (kind < 85) {
+        expect_malformed((enum malformation)roll(&dice, MALFORMATIONS), &drawing);
+    } else {
+        if (kind < 95)
+            flip_bytes(&dice, &file);
+        else if (kind < 98)
+            random_fields(&dice, &file);
+        else
+            random_bytes(&dice, &file);
+        drawing_call(&file);
+    }
+}
+
 /* ---- Every service on one board, with buffers that are as long as needed and one byte short. ---- */
 
 static void services_but_probe(const struct file *table, const struct file *netlist)
@@ -575,19 +782,34 @@ static void check_some_board(void)
     check_demands(&diagram);
 }
 
+/* A table made from a drawing, asked by itself. */
+static void check_some_drawing(void)
+{
+    struct drawing drawing;
+    unsigned contacts = 1 + roll(&dice, chance(&dice, 70) ? 8 : 12);
+    random_drawing(&dice, contacts, 1 + roll(&dice, 8), roll(&dice, chance(&dice, 70) ? 20 : MOST_NODES + 1), &drawing);
+    if (contacts > 2 && chance(&dice, 30))
+        wide_drawing(&dice, contacts, 1 + roll(&dice, contacts - 2), 6 + roll(&dice, 5), &drawing);
+    snprintf(where, sizeof where, "drawing %lu, seed %" PRIu64, demands.drawings, seed);
+    check_drawing(&dice, &drawing, &demands);
+    stop_after_many();
+}
+
 static void random_case(void)
 {
     unsigned kind = roll(&dice, 100);
-    if (kind < 17)
+    if (kind < 16)
         table_case(CHECK);
-    else if (kind < 35)
+    else if (kind < 32)
         table_case(BUILD);
-    else if (kind < 49)
+    else if (kind < 45)
         table_case(READ_OFF);
-    else if (kind < 64)
+    else if (kind < 59)
         table_case(PROBE);
-    else if (kind < 73)
+    else if (kind < 67)
         sheet_case();
+    else if (kind < 75)
+        drawing_case();
     else
         run_case();
 }
@@ -597,12 +819,12 @@ static void random_case(void)
 static bool print_hits(void)
 {
     bool all = true;
-    printf("%-9s", "refusal");
+    printf("%-12s", "refusal");
     for (unsigned number = 0; number < REFUSALS; number++)
         printf("%7u", number);
     printf("\n");
     for (unsigned service = 0; service < SERVICES; service++) {
-        printf("%-9s", service_names[service]);
+        printf("%-12s", service_names[service]);
         for (unsigned number = 0; number < REFUSALS; number++) {
             bool can_be = possible[service] >> number & 1;
             if (can_be)
@@ -619,7 +841,7 @@ static bool print_hits(void)
 static bool print_counts(const char *what, const unsigned long *count, unsigned from, unsigned to)
 {
     bool all = true;
-    printf("accepted tables by %s, %u to %u:", what, from, to);
+    printf("%s, %u to %u:", what, from, to);
     for (unsigned i = from; i <= to; i++) {
         printf(" %lu", count[i]);
         all = all && count[i] != 0;
@@ -641,24 +863,59 @@ static bool print_sheets(void)
     return all;
 }
 
+/* How often a level had just so many functions, from a level on; each that can have them must, for each count of contacts. */
+static bool print_wide(const char *what, unsigned long count[13][12], unsigned from)
+{
+    bool all = true;
+    printf("drawings with %s functions in a level, %u to 10:", what, from);
+    for (unsigned level = from; level <= 10; level++) {
+        unsigned long sum = 0;
+        for (unsigned contacts = level + 2; contacts <= 12; contacts++) {
+            sum += count[contacts][level];
+            all = all && count[contacts][level] != 0;
+        }
+        printf(" %lu", sum);
+    }
+    printf("\n");
+    return all;
+}
+
+static bool print_drawings(void)
+{
+    bool all = print_counts("drawings by contacts", drawn_contacts, 1, 12);
+    all = print_counts("malformed drawings by kind", malformed, 0, MALFORMATIONS - 1) && all;
+    all = print_wide("eight", at_eight, 0) && all;
+    all = print_wide("nine", at_nine, 1) && all;
+    printf("drawings with no nodes: %lu, with 200: %lu, that skip levels: %lu, repeat nodes: %lu, have nodes that nothing mentions: "
+           "%lu, constants as outputs: %lu, edges to a higher number: %lu, to a lower one: %lu\n",
+           drawn.no_nodes, drawn.all_nodes, drawn.skipping, drawn.repeating, drawn.unmentioned, drawn.constant_outputs, drawn.upward,
+           drawn.downward);
+    return all && drawn.no_nodes != 0 && drawn.all_nodes != 0 && drawn.skipping != 0 && drawn.repeating != 0 &&
+           drawn.unmentioned != 0 && drawn.constant_outputs != 0 && drawn.upward != 0 && drawn.downward != 0;
+}
+
 static int summary(void)
 {
     printf("seed %" PRIu64 ", %lu cases\n", seed, cases);
     bool all = print_hits();
-    all = print_counts("contacts", accepted_contacts, 1, 12) && all;
-    all = print_counts("outputs", accepted_outputs, 1, 8) && all;
-    all = print_counts("largest width", accepted_width, 2, 8) && all;
-    all = print_counts("spare contacts", accepted_spare, 0, 12) && all;
-    all = print_counts("place of a spare contact", spare_place, 0, 11) && all;
+    all = print_counts("accepted tables by contacts", accepted_contacts, 1, 12) && all;
+    all = print_counts("accepted tables by outputs", accepted_outputs, 1, 8) && all;
+    all = print_counts("accepted tables by largest width", accepted_width, 2, 8) && all;
+    all = print_counts("accepted tables by spare contacts", accepted_spare, 0, 12) && all;
+    all = print_counts("accepted tables by place of a spare contact", spare_place, 0, 11) && all;
     printf("accepted tables with a constant output: %lu, with constant outputs alone: %lu, with 11 of 12 contacts spare: %lu\n",
            with_constant, all_constant, eleven_spare_of_12);
     all = with_constant != 0 && all_constant != 0 && eleven_spare_of_12 != 0 && all;
     all = print_sheets() && all;
+    all = print_drawings() && all;
     printf("boards checked by themselves: %lu, with %lu sheets, %lu runs, %lu sets of lines held one way, %lu probes, %lu of them of "
            "lines that nothing reads\n",
            demands.boards, demands.sheets, demands.inputs, demands.hold_sets, demands.probes, demands.unread);
+    printf("drawings checked by themselves: %lu, %lu of them with more than eight functions in a level\n", demands.drawings,
+           demands.too_wide);
+    all = demands.too_wide != 0 && demands.too_wide != demands.drawings && all;
     if (!all)
-        printf("not every number that a service can give was hit, or a size of table or sheet was missed\n");
+        printf("not every number that a service can give was hit, or a kind of table, sheet or drawing was missed\n");
     printf("%lu differences\n", differences + demands.failures);
     return all && differences + demands.failures == 0 ? 0 : 1;
 }
@@ -711,6 +968,8 @@ int main(int argc, char **argv)
     watch_faults();
     for (unsigned contacts = 1; contacts <= 12; contacts++)
         compare_spare_contacts(contacts);
+    for (unsigned contacts = 1; contacts <= 12; contacts++)
+        compare_drawings(contacts);
     count += cases; /* random ones, besides these */
     for (uint64_t i = 0; cases < count; i++) {
         random_case();
@@ -718,8 +977,10 @@ int main(int argc, char **argv)
             compare_sizes();
         if (i % 400 == 0)
             compare_small_board();
-        if (i % 50 == 0)
+        if (i % 50 == 0) {
             check_some_board();
+            check_some_drawing();
+        }
     }
     int status = summary();
     for (unsigned side = 0; side < SIDES; side++)

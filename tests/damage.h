@@ -2,7 +2,7 @@
 #ifndef DAMAGE_H
 #define DAMAGE_H
 
-#include "tables.h"
+#include "drawings.h"
 
 enum { FILE_ROOM = 80000, MOST_GATES = 10560 };
 
@@ -13,6 +13,16 @@ struct file {
 
 /* A table damaged at one to three of the questions 1 to 7. */
 void damaged_table(struct dice *dice, const struct diagram *good, struct file *file);
+
+/* The ways in which a drawing can be malformed. */
+enum malformation {
+    NO_BYTES, CUT_SHORT, BYTES_BEHIND, FIELD_TOO_MANY, FIELD_MISSING, FIELDS_EXCHANGED, WRONG_TAG, NO_CONTACTS, CONTACTS_ABOVE_12,
+    CONTACTS_LENGTH, NO_OUTPUTS, OUTPUTS_ABOVE_8, OUTPUT_NOT_LISTED, PART_OF_A_NODE, NODES_ABOVE_200, LEVEL_NOT_BELOW_N,
+    EDGE_NOT_LISTED, EDGE_TO_ITSELF, EDGE_WITHIN_LEVEL, EDGE_TO_LOWER_LEVEL, UNMENTIONED_NODE, MALFORMATIONS
+};
+
+/* The file of a good drawing, of 2 contacts or more for EDGE_TO_LOWER_LEVEL and of 198 nodes at most, malformed in this way. */
+void malformed_drawing(struct dice *dice, enum malformation kind, const struct drawing *good, struct file *file);
 
 /* Sets up to three bytes anew. */
 void flip_bytes(struct dice *dice, struct file *file);

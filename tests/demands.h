@@ -1,11 +1,12 @@
-/* The demands, asked of boards that the library builds, with no other implementation beside it. */
+/* The demands, asked of boards that the library builds and of tables that it makes from drawings, with no other implementation beside
+ * it. */
 #ifndef DEMANDS_H
 #define DEMANDS_H
 
-#include "tables.h"
+#include "drawings.h"
 
 struct demands {
-    unsigned long boards, sheets, inputs, hold_sets, probes, unread, failures;
+    unsigned long boards, sheets, inputs, hold_sets, probes, unread, drawings, too_wide, failures;
 };
 
 /* Builds the board of an accepted diagram and checks
@@ -18,5 +19,12 @@ struct demands {
  *   reads, and no input shows that one.
  * Large boards are run at some inputs only, but for every eighth of them. */
 void check_board(struct dice *dice, const struct diagram *diagram, struct demands *demands);
+
+/* Makes the table of a well-formed drawing and checks
+ *   that question 17 refuses it exactly if truth tables show more than eight functions in a level;
+ *   that check accepts the table, with the drawing's contacts and outputs;
+ *   that read-off gives the drawing's word at every input, or for many contacts at some;
+ *   that another drawing of the same functions has the same table and the same netlist. */
+void check_drawing(struct dice *dice, const struct drawing *drawing, struct demands *demands);
 
 #endif

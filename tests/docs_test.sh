@@ -1,6 +1,6 @@
 #!/bin/sh
 # The header, the program, README and docs/RULES.md say the same: the questions behind the refusals, the version, the examples, the
-# commands, the worked boards.
+# commands, the worked boards and the worked drawing.
 #
 #     tests/docs_test.sh BENCH QUESTIONS [RESULTS]
 #
@@ -41,6 +41,11 @@ refused run hex:01000101040005020002000305000400040003 0
 refused run "$selector.netlist" hex:00
 refused probe "$selector.table" 17=0
 refused probe "$root/examples/spare.table" 2=0
+refused draw hex:
+printf 'contacts 3\noutputs %s\n' "$(seq -s ' ' 20 24)" >wide.drawing
+printf '%s\n' '20 0 10 11' '21 0 12 13' '22 0 14 15' '23 0 16 17' '24 0 18 0' '10 1 2 0' '11 1 2 1' '12 1 0 2' '13 1 1 2' \
+    '14 1 3 0' '15 1 3 1' '16 1 0 3' '17 1 1 3' '18 1 2 3' '2 2 0 1' '3 2 1 0' >>wide.drawing
+refused draw wide.drawing
 sed '/^| 9 /d' header >asked # the program lends buffers that are long enough
 same "the program's questions are the header's" asked program
 
@@ -60,11 +65,16 @@ sed -n '/^    \$ pilgodur list/,/^$/p' "$root/README.md" | sed '1d; $d; s/^    /
 "$bench" list selector.table >said
 same "README's example of list" said listing
 
+sed -n '/^    \$ cat both.drawing/,/^    \$ pilgodur draw/p' "$root/README.md" | sed '1d; $d; s/^    //' >both.drawing
+sed -n '/^    \$ pilgodur draw both.drawing/,/^$/p' "$root/README.md" | sed '1d; $d; s/^    //' >drawn
+"$bench" draw both.drawing >said
+same "README's example of draw" said drawn
+
 "$bench" --help | sed -n 's/^  \([a-z][a-z-]*\) .*/\1/p' >commands
 while read -r command; do
     grep -q "^| \`$command " "$root/README.md" || complain "README has no row for $command"
 done <commands
-[ "$(wc -l <commands)" -ge 9 ] || failures=$((failures + 1))
+[ "$(wc -l <commands)" -ge 10 ] || failures=$((failures + 1))
 
 # The worked boards of docs/RULES.md. A table stands in the first block of a section, with words behind its bytes.
 section() {
@@ -107,6 +117,20 @@ same_gates 'A second board'
 table_of 'A third board' 'matrices'
 same_netlist 'A third board'
 same_gates 'A third board'
+
+# The worked drawing: its text is that of examples/, and its text and its bytes have the page's table.
+section 'A drawing' | sed -n '/Its text, /,/^Its bytes/p' | sed '1,2d; $d' | sed '$d; s/^    //' >text
+same "the drawing in docs/RULES.md is examples/gallery.drawing" "$root/examples/gallery.drawing" text
+section 'A drawing' | sed '1,/^Its bytes/d; /^The functions/,$d' | bytes >drawing
+section 'A drawing' | sed '1,/The table, /d' | bytes | sed 's/^/hex:/; s/$/\n/' >page
+[ "$(wc -c <drawing)" -eq 96 ] || complain "the drawing in docs/RULES.md has another count of bytes"
+for given in text "hex:$(cat drawing)"; do
+    "$bench" draw "$given" >said
+    same "the table of the drawing in docs/RULES.md" said page
+done
+"$bench" draw text | "$bench" check - | sed -n 's/^gates \(.*\)/\1/p; s/^depth \(.*\)/\1/p' | xargs printf 'Its netlist has %s gates and depth %s.\n' >said
+section 'A drawing' | grep '^Its netlist' >page
+same "the netlist of the drawing in docs/RULES.md" said page
 
 echo "docs: $failures differences"
 [ "$failures" -eq 0 ]

@@ -40,6 +40,7 @@ limited() {
 tested() {
     limited tests/bench_test.sh "$1" "$folder/bench_test" &&
         limited tests/save_test.sh "$1" "$2" "$folder/save_test" &&
+        limited tests/draw_test.sh "$1" build/sketches "$folder/draw_test" &&
         limited tests/terminal_test.sh build/terminal "$1" &&
         limited tests/docs_test.sh "$1" build/questions "$folder/docs_test" &&
         limited tests/exports_test.sh "$1" build/readback build/netlists "$folder/exports"
@@ -165,8 +166,55 @@ wrong on_table "the first spare contact alone" 's/i < netlist->contacts; i++/i <
 wrong on_table "spare contacts are counted from 1" 's/: ", ", i);/: ", ", i + 1);/'
 wrong on_table "an empty line where no contact is spare" 's/if (spare > 0)/if (true)/'
 wrong on_table "the hold of a line that nothing reads is not named" 's/ || probed.refusal == PILGODUR_REFUSAL_UNREAD)/)/'
-wrong on_table "build with -o writes text" 's/request->output != NULL/false/'
+wrong on_table "build with -o writes text" 's/request->output == NULL/true/'
 wrong on_table "output 0 has the largest weight" 's/reading.word >> j/reading.word >> (checked.outputs - 1 - j)/'
+wrong draw "draw with -o writes text" 's/request->output == NULL/true/'
+wrong draw "draw without -o writes bytes" 's/request->output == NULL/false/'
+wrong draw "room for a table is too short" 's/table\[PILGODUR_TABLE_MAX\]/table[60]/'
+wrong draw "the fault is left out" 's/made.refusal == PILGODUR_REFUSAL_DRAWING && find_fault(&drawing, &fault)/false/'
+wrong draw "text is handed over as it is" 's/pilgodur_from_drawing(drawing.bytes, drawing.length/pilgodur_from_drawing(request->file[0].at, request->file[0].length/'
+wrong draw "a refused drawing is an answer" 's/if (made.refusal != 0)/if (false)/'
+wrong draw "nodes are named by their place" 's/if (d->is_text)/if (false)/'
+wrong draw "the name of the node after" 's/d->node\[number - 2\].name.at)/d->node[number - 1].name.at)/'
+wrong draw "a line is not named" 's/if (f->drawing->is_text)/if (false)/'
+wrong draw "only 0-edges are looked at" 's/ || edge_fault(f, number, line, node\[2\], fault)//'
+wrong draw "an edge within its level is no fault" 's/3 \* (edge - 2)\] <= contact)/3 * (edge - 2)] < contact)/'
+wrong draw "a contact too high is no fault" 's/if (node\[0\] >= contacts)/if (false)/'
+wrong draw "the count of outputs is that of the bytes" 's/d->is_text ? d->outputs : length/length/'
+wrong draw "the count of nodes is that of the bytes" 's/d->is_text ? d->nodes : length/length/'
+wrong draw "bytes after the last field are no fault" 's/return at < length \&\&/return false \&\&/'
+wrong draw "a cut field is read on" 's/two_bytes(bytes + at + 1) > length - at - 3/false/'
+wrong drawing "text is taken for bytes" "s/file->at\[0\] >= ' ' || //"
+wrong drawing "text that begins with an empty line is taken for bytes" 's/ || memchr(".t.r.n", file->at\[0\], 3) != NULL//'
+wrong drawing "bytes are taken for text" 's/file->length > 0 && (.*)$/file->length > 0)/'
+wrong drawing "comments are words" "s/memchr(text->at, '#', /memchr(text->at, 1, /"
+wrong drawing "a tab is no blank" "s/ || c == '.t'//"
+wrong drawing "CRLF is no line end" "s/ || c == '.r'//"
+wrong drawing "lines are counted from 0" 's/{.file = file->name}/{.file = file->name, .number = -1u}/'
+wrong drawing "a last line without a line feed is lost" 's/while (text->at < text->end) {/while (text->at < text->end \&\& memchr(text->at, 10, (size_t)(text->end - text->at))) {/'
+wrong drawing "any sign may be in a word" 's/if (!is_of_a_word(\*line->at))/if (false)/'
+wrong drawing "no dot in a name" "s/ || c == '.';/;/"
+wrong drawing "numbers wrap" 's/if (number > UINT8_MAX)/if (false)/'
+wrong drawing "a word that is no number is one" "s/if (word->at\[i\] < '0' || word->at\[i\] > '9')/if (false)/"
+wrong drawing "a name twice is the first one's" 's/if (first != node)/if (false)/'
+wrong drawing "a name that is missing is the constant 0" 's/    if (node == NULL)/    if (node == NULL)\n        return 0;\n    if (false)/'
+wrong drawing "names that begin alike are one" 's/order != 0 ? order : (a->length > b->length) - (a->length < b->length)/order/'
+wrong drawing "names are not sorted" 's/^    qsort(.*//'
+wrong drawing "the first node has the number 1" 's/size_t number = 2 + /size_t number = 1 + /'
+wrong drawing "the constants are exchanged" "s/name->at\[0\] == '1'/name->at[0] == '0'/"
+wrong drawing "open and closed are exchanged" 's/\*put++ = zero;/*put++ = one; one = zero;/'
+wrong drawing "a node may be called 1" 's/ || is(&node->name, "1"))/)/'
+wrong drawing "a third word after contacts is ignored" 's/ || !next_word(line, &number) || next_word(line, &more)/ || !next_word(line, \&number)/'
+wrong drawing "a fifth word is ignored" 's/!next_word(line, &node->edge\[1\]) || next_word(line, &more)/!next_word(line, \&node->edge[1])/'
+wrong drawing "the count of contacts may be missing" 's/ || !next_word(line, &number)/ || (next_word(line, \&number), false)/'
+wrong drawing "outputs need not be named so" 's/ || !is(&word, "outputs"))/)/'
+wrong drawing "outputs past the ninth are written" 's/if (drawing->outputs <= DRAWING_OUTPUTS)/if (true)/'
+wrong drawing "the ninth output is left out" 's/smaller(drawing->outputs, DRAWING_OUTPUTS + 1)/smaller(drawing->outputs, DRAWING_OUTPUTS)/'
+wrong drawing "node 201 is left out" 's/smaller(drawing->nodes, DRAWING_NODES + 1)/smaller(drawing->nodes, DRAWING_NODES)/'
+wrong drawing "nodes past 201 are written" 's/if (i < count)/if (true)/'
+wrong drawing "nodes past the first 64 overwrite others" 's/room == 0 ? FIRST_ROOM : 2 \* room/FIRST_ROOM + 0 * room/'
+wrong drawing "a missing output is on the line before" 's/^    read_nodes(&text, drawing);/    outputs.number--;\n&/'
+wrong drawing "a text of another form is a refusal" 's/fail(FAILED, "%s: line %u: %s"/fail(SAID_NO, "%s: line %u: %s"/'
 wrong on_netlist "the sheet without its heading" 's/fwrite(text, 1, sheet.length, out)/fwrite(text + 22, 1, sheet.length - 22, out)/'
 wrong on_netlist "the sheet without its last row" 's/fwrite(text, 1, sheet.length, out)/fwrite(text, 1, sheet.length - 22, out)/'
 wrong on_netlist "the sheet without its last line feed" 's/fwrite(text, 1, sheet.length, out)/fwrite(text, 1, sheet.length - 1, out)/'

@@ -1,4 +1,4 @@
-/* The independent implementation of the six services, written from the rules alone. Same arguments and answers as pilgodur.h. */
+/* The independent implementation of the seven services, written from the rules alone. Same arguments and answers as pilgodur.h. */
 #ifndef REFERENCE_H
 #define REFERENCE_H
 
@@ -13,5 +13,6 @@ uint32_t ref_run(const uint8_t *netlist, size_t netlist_len, const uint8_t *rail
 pilgodur_probed ref_probe(const uint8_t *table, size_t table_len, const uint8_t *hold, size_t hold_len,
                           uint8_t *buffer, size_t buffer_len);
 pilgodur_built ref_sheet(const uint8_t *netlist, size_t netlist_len, uint8_t *text, size_t text_len);
+pilgodur_built ref_from_drawing(const uint8_t *drawing, size_t drawing_len, uint8_t *table, size_t table_len);
 
 #endif

@@ -53,10 +53,12 @@ for output in selector.table ./selector.table folder/../selector.table "$PWD/sel
 done
 expect 2 "pilgodur: selector.table: $overwrite link.table, which was read" "$bench" dictionary link.table -o selector.table
 expect 2 "pilgodur: selector.table: $overwrite selector.table, which was read" "$bench" export selector.table --dot -o selector.table
+expect 2 "pilgodur: ./gallery.drawing: $overwrite gallery.drawing, which was read" "$bench" draw gallery.drawing -o ./gallery.drawing
 expect 2 "pilgodur: selector.table: $overwrite standard input, which was read" \
     sh -c "'$bench' build - -o selector.table <selector.table"
 expect 2 "pilgodur: standard output: $overwrite selector.table, which was read" sh -c "'$bench' list selector.table >>selector.table"
 same selector.table kept.table
+same gallery.drawing "$examples/gallery.drawing"
 
 # A new file has the permissions that the mask leaves, a replaced one keeps its own; a link stays a link.
 umask 027
@@ -75,6 +77,8 @@ expect 0 '' "$bench" build selector.table -o folder/link
 same aim "$examples/selector.netlist"
 [ -L folder/link ] || complain "a link was replaced"
 expect 0 '' "$bench" build selector.table -o folder/new
+expect 0 '' "$bench" draw hex:0100010302000103070012010500000206000001020001010701020001 -o drawn.table
+same drawn.table "$examples/selector.table"
 same folder/new "$examples/selector.netlist"
 
 # Not a regular file: written directly.
@@ -124,6 +128,9 @@ fi
 echo old >old
 expect 1 'pilgodur: hex:: refused, number 2: Is the first field tag 1, length 1, value 1 to 12? No.' "$bench" build hex: -o old
 expect 3 'pilgodur: no-such.table: No such file or directory' "$bench" build no-such.table -o old
+echo contacts 3 >cut.drawing
+expect 3 'pilgodur: cut.drawing: line 1: the text ends before the line: outputs NODE...' "$bench" draw cut.drawing -o old
+expect 3 'pilgodur: old: Input/output error' env FAIL=fsync "$failing" draw gallery.drawing -o old
 expect 3 'pilgodur: old: File too large' sh -c "ulimit -f 4; exec '$bench' build widest.table -o old"
 expect 3 'pilgodur: old: File too large' sh -c "ulimit -f 4; exec '$bench' dictionary widest.table -o old"
 for call in mkstemp fchmod write short_write fsync close rename; do

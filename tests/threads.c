@@ -10,12 +10,12 @@
 #include <string.h>
 
 #include "../include/pilgodur.h"
-#include "tables.h"
+#include "drawings.h"
 
 enum { THREADS = 8, BOARDS = 24, BUFFER = PILGODUR_FILE_MAX + PILGODUR_LINES_MAX };
 enum { STACK = 512 * 1024 }; /* the header says 270 KB for probe */
 
-/* What all threads read: a table, rails, holds and an input, some of them damaged. */
+/* What all threads read: a table, rails, holds, an input and a drawing, some of them damaged. */
 struct board {
     uint8_t table[TABLE_MAX];
     size_t table_length;
@@ -25,6 +25,8 @@ struct board {
     size_t rails_length;
     uint8_t hold[3];
     uint32_t input;
+    uint8_t drawing[DRAWING_MAX];
+    size_t drawing_length;
 };
 
 /* What the services answer on a board. */
@@ -35,11 +37,13 @@ struct answers {
     uint32_t run;
     pilgodur_probed probed;
     pilgodur_built sheet;
+    pilgodur_built drawn;
     uint8_t file[PILGODUR_FILE_MAX];
     uint8_t lines[PILGODUR_LINES_MAX];
     uint8_t pairs[PILGODUR_PAIRS_MAX];
     uint8_t probe[BUFFER];
     uint8_t text[PILGODUR_SHEET_MAX];
+    uint8_t table[PILGODUR_TABLE_MAX];
 };
 
 static struct board boards[BOARDS];
@@ -57,11 +61,13 @@ static void ask(const struct board *b, struct answers *a)
                           sizeof a->lines, a->pairs, sizeof a->pairs);
     a->probed = pilgodur_probe(b->table, b->table_length, b->hold, sizeof b->hold, a->probe, sizeof a->probe);
     a->sheet = pilgodur_sheet(b->netlist, b->netlist_length, a->text, sizeof a->text);
+    a->drawn = pilgodur_from_drawing(b->drawing, b->drawing_length, a->table, sizeof a->table);
 }
 
 static void draw_board(struct dice *dice, struct board *b)
 {
     struct diagram diagram;
+    struct drawing drawing;
     if (chance(dice, 20))
         largest_diagram(dice, 12, &diagram);
     else
@@ -74,6 +80,11 @@ static void draw_board(struct dice *dice, struct board *b)
     unsigned line = 2 + roll(dice, 2 * diagram.contacts);
     memcpy(b->hold, (uint8_t[]){(uint8_t)(line / 256), (uint8_t)line, (uint8_t)roll(dice, 2)}, 3);
     b->input = roll(dice, 1u << diagram.contacts);
+    drawing_of(&diagram, &drawing);
+    redraw(dice, roll(dice, MOST_NODES + 1), &drawing);
+    b->drawing_length = write_drawing(&drawing, b->drawing);
+    if (chance(dice, 20))
+        b->drawing[roll(dice, (uint32_t)b->drawing_length)] ^= 1;
     if (chance(dice, 20))
         b->table[roll(dice, (uint32_t)b->table_length)] ^= 1;
 }
@@ -133,7 +144,7 @@ int main(int argc, char **argv)
 {
     static const char *const verdict[] = {"DIFFERENT ANSWERS", "the same answers"};
     struct dice dice = {1};
-    unsigned accepted = 0, unread = 0;
+    unsigned accepted = 0, unread = 0, drawn = 0;
     if (argc > 1)
         rounds = (unsigned)strtoul(argv[1], NULL, 10);
     for (unsigned i = 0; i < BOARDS; i++) {
@@ -141,10 +152,13 @@ int main(int argc, char **argv)
         ask(&boards[i], &expected[i]);
         accepted += expected[i].checked.refusal == 0;
         unread += expected[i].probed.refusal == PILGODUR_REFUSAL_UNREAD;
+        drawn += expected[i].drawn.refusal == 0;
     }
     bool threads_agree = run_threads();
     bool overlaps_agree = overlaps();
-    printf("threads: %d threads, %d boards (%u accepted, %u with a spare rail held), %u rounds: %s; overlapping strings: %s\n",
-           THREADS, BOARDS, accepted, unread, rounds, verdict[threads_agree], verdict[overlaps_agree]);
-    return threads_agree && overlaps_agree && accepted > BOARDS / 2 && accepted < BOARDS && unread > 0 ? 0 : 1;
+    printf("threads: %d threads, %d boards (%u accepted, %u with a spare rail held, %u with a good drawing), %u rounds: %s; "
+           "overlapping strings: %s\n",
+           THREADS, BOARDS, accepted, unread, drawn, rounds, verdict[threads_agree], verdict[overlaps_agree]);
+    bool all_kinds = accepted > BOARDS / 2 && accepted < BOARDS && unread > 0 && drawn > BOARDS / 2 && drawn < BOARDS;
+    return threads_agree && overlaps_agree && all_kinds ? 0 : 1;
 }

@@ -60,3 +60,15 @@ module _ (base k : ℕ) (whole : base % 64 ≡ 0) (l : k < 64) where
   pub rail-high : (c : ℕ) → 6 ≤ c → bitOf c base ≡ bit (inputOf (base + k) c)
   rail-high c h =
       ap (λ (x : ℕ). x % 2) (rw (let e : c ≡ 6 + (c - 6) = omega arith in e) (high (c - 6))) ∙ sym (input-bit (base + k) c)
+
+  -- The first six contacts have the same values in each batch; the others one value in a batch.
+  pub low-same : (c : ℕ) → c < 6 → inputOf (base + k) c ≡ inputOf k c
+  unfolding inputOf
+  low-same c h = ap (λ (x : ℕ). eqb x 1) (sym (low c h))
+
+  pub high-same : (c : ℕ) → 6 ≤ c → inputOf (base + k) c ≡ inputOf base c
+  unfolding inputOf
+  high-same c h =
+      let e : c ≡ 6 + (c - 6) = omega arith in
+      let same : base / 2 ^ c ≡ (base + k) / 2 ^ c = rw e (high (c - 6)) in
+      ap (λ (x : ℕ). eqb (x % 2) 1) (sym same)

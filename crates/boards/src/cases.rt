@@ -4,6 +4,8 @@
 //     f NAME: FILE                                              the fields of a file
 //     t NAME: TABLE                                             a table, and what is read off
 //     i NAME: TABLE / INPUT                                     what is read off at one input
+//     d NAME: DRAWING / ROOM                                    a drawing's table in a buffer of so many bytes
+//     w NAME: COUNT / ROOM                                      the same, of a drawing of so many nodes
 //     b NAME: TABLE                                             the netlist that is built
 //     k NAME: TABLE / ROOM                                      what build keeps of a buffer of so many bytes
 //     r NAME: NETLIST / ROOM / FROM / HOLDS / RAILS / PAIRS     a run with two buffers, the first shown from a place on
@@ -15,6 +17,7 @@ use crate::probes;
 use listings::netlists;
 use text::print;
 use text::spelling;
+use views::drawings;
 use views::rows;
 use views::runs;
 use views::sheets;
@@ -60,6 +63,8 @@ fn show(kind: u8, case: &[u8]) {
         b'f' => rows::show(file),
         b't' => tables::show(file),
         b'i' => tables::show_at(file, case),
+        b'd' => drawings::show(file, case),
+        b'w' => drawings::show_row(case),
         b'b' => netlists::show(file),
         b'k' => netlists::show_kept(file, case),
         b'r' => runs::show(file, case),

@@ -1,8 +1,8 @@
--- Diagrams that read off the same word at every input number are the same.
+-- Words and the values in them. Diagrams that read off the same word at every input number are the same.
 use Prim.Native.Nat.{ℕ, zero, suc, _+_, _*_, _/_, _%_, _^_, _<_}
 use native.Mathlib.Nat.{eq-or-lt-of-le, le-of-suc-le-suc}
 use native.Mathlib.Omega.{arith}
-use mathlib.Core.Path.{_≡_, sym, ap, _∙_}
+use mathlib.Core.Path.{_≡_, refl, sym, ap, ap₂, _∙_}
 use mathlib.Core.Bool.{true}
 use mathlib.Core.Logic.{⊎-elim}
 use lib.Arith.{digits-lt, digits-div, digits-mod}
@@ -13,15 +13,15 @@ use Rattle.diagram.proofs.Inputs.{inputNumber}
 use Rattle.diagram.proofs.Paths.{value-same, value-bit}
 use Rattle.diagram.proofs.Unique.{Reduced, Same, unique}
 
--- The first m outputs show 0 or 1.
-abbrev pub Bits : Diagram → Input → ℕ → Type 0
-Bits d x m = (j : ℕ) → j < m → valueAt d x j < 2
+-- The first m values are 0 or 1.
+abbrev pub Bits : (ℕ → ℕ) → ℕ → Type 0
+Bits value m = (j : ℕ) → j < m → value j < 2
 
-word-below : (d : Diagram) (x : Input) (m : ℕ) → Bits d x m → wordAt d x m < 2 ^ m
+word-below : (value : ℕ → ℕ) (m : ℕ) → Bits value m → wordOf value m < 2 ^ m
 unfolding wordOf
-word-below d x zero b = omega arith
-word-below d x (suc m) b =
-    omega (arith, digits-lt (b m (omega arith)) (word-below d x m (λ j h. b j (omega arith))))
+word-below value zero b = omega arith
+word-below value (suc m) b =
+    omega (arith, digits-lt (b m (omega arith)) (word-below value m (λ j h. b j (omega arith))))
 
 digits : (c v v' w w' : ℕ) → w < c → w' < c → w + v * c ≡ w' + v' * c → (v ≡ v') × (w ≡ w')
 digits c v v' w w' h h' p =
@@ -31,16 +31,21 @@ digits c v v' w w' h h' p =
     )
 
 -- A word determines the values.
-pub word-values : (d e : Diagram) (x : Input) (m : ℕ) → Bits d x m → Bits e x m → wordAt d x m ≡ wordAt e x m →
-    (j : ℕ) → j < m → valueAt d x j ≡ valueAt e x j
+pub word-values : (f g : ℕ → ℕ) (m : ℕ) → Bits f m → Bits g m → wordOf f m ≡ wordOf g m → (j : ℕ) → j < m → f j ≡ g j
 unfolding wordOf
-word-values d e x zero bd be w j h = absurd (omega arith)
-word-values d e x (suc m) bd be w j h =
-    let rd : Bits d x m = λ i h. bd i (omega arith) in
-    let re : Bits e x m = λ i h. be i (omega arith) in
-    let (v, low) = digits (2 ^ m) _ _ _ _ (word-below d x m rd) (word-below e x m re) w in
-    ⊎-elim (λ q. ap (valueAt d x) q ∙ v ∙ ap (valueAt e x) (sym q)) (word-values d e x m rd re low j)
-    (eq-or-lt-of-le (le-of-suc-le-suc h))
+word-values f g zero bf bg w j h = absurd (omega arith)
+word-values f g (suc m) bf bg w j h =
+    let rf : Bits f m = λ i h. bf i (omega arith) in
+    let rg : Bits g m = λ i h. bg i (omega arith) in
+    let (v, low) = digits (2 ^ m) _ _ _ _ (word-below f m rf) (word-below g m rg) w in
+    ⊎-elim (λ q. ap f q ∙ v ∙ ap g (sym q)) (word-values f g m rf rg low j) (eq-or-lt-of-le (le-of-suc-le-suc h))
+
+-- The values determine the word.
+pub word-same : (f g : ℕ → ℕ) (m : ℕ) → ((j : ℕ) → j < m → f j ≡ g j) → wordOf f m ≡ wordOf g m
+unfolding wordOf
+word-same f g zero h = refl
+word-same f g (suc m) h =
+    ap₂ (λ (w b : ℕ). w + b * 2 ^ m) (word-same f g m (λ j l. h j (omega arith))) (h m (omega arith))
 
 module _ (d e : Diagram) where
   pub functions-equal : inRange d ≡ true → inRange e ≡ true → d .contacts ≡ e .contacts → d .outputs ≡ e .outputs →
@@ -50,7 +55,7 @@ module _ (d e : Diagram) where
       let (a, l, same) = inputNumber x (d .contacts) in
       let y = inputOf a in
       sym (value-same d y x j same)
-      ∙ word-values d e y (d .outputs) (value-bit d rd y) (λ i k. value-bit e re y i (omega arith)) (words a l) j h
+      ∙ word-values (valueAt d y) (valueAt e y) (d .outputs) (value-bit d rd y) (λ i k. value-bit e re y i (omega arith)) (words a l) j h
       ∙ value-same e y x j (λ i k. same i (omega arith))
 
   pub same-words : Reduced d → Reduced e → d .contacts ≡ e .contacts → d .outputs ≡ e .outputs →

@@ -1,8 +1,9 @@
--- The first no of several questions: where it is none, every answer is yes; where the first answer is no, it is that.
+-- The first no of several questions: where it is none, every answer is yes; where the first answer is no, it is that; where all but the
+-- last are yes, it is the last answer.
 use Prim.Native.Nat.{ℕ, zero, suc}
 use native.Mathlib.Omega.{arith}
 use mathlib.Core.Path.{_≡_, refl}
-use mathlib.Core.List.{List, _∷_}
+use mathlib.Core.List.{List, [], _∷_}
 use Rattle.fields.specs.Refusals.{firstNo}
 
 pub first-yes : (k : ℕ) (ks : List ℕ) → firstNo (k ∷ ks) ≡ 0 → (k ≡ 0) × (firstNo ks ≡ 0)
@@ -14,3 +15,12 @@ pub first-no : (k : ℕ) (ks : List ℕ) → (k ≡ 0 → ⊥) → firstNo (k �
 unfolding firstNo
 first-no zero ks h = absurd (h refl)
 first-no (suc k) ks h = refl
+
+pub first-only : (k : ℕ) → firstNo (k ∷ []) ≡ k
+unfolding firstNo
+first-only zero = refl
+first-only (suc k) = refl
+
+pub first-last : (k : ℕ) → firstNo (0 ∷ k ∷ []) ≡ k
+unfolding firstNo
+first-last k = first-only k

@@ -1,4 +1,4 @@
--- The field that tables and netlists begin with, by the answer of question 2.
+-- The field that files begin with, by the answer of question 2.
 use Prim.Native.Nat.{ℕ, _≤_}
 use native.Mathlib.Omega.{arith}
 use mathlib.Core.Path.{_≡_, refl, ap, _∙_}
@@ -9,8 +9,9 @@ use lib.Dec.{eqb, leb}
 use lib.ListN.{length, getD}
 use Rattle.fields.specs.Fields.{Item}
 use Rattle.fields.specs.Refusals.{between}
+use Rattle.files.specs.declared.header.Contacts.{Contacts}
 use Rattle.files.specs.declared.header.Contacts.the-variants.{Counted, Uncounted}
-use Rattle.files.specs.Header.{contactsIn}
+use Rattle.files.specs.Header.{contactsIn, contactsNumber}
 
 abbrev pub field : ℕ → List ℕ → Item
 field tag value = record { tag = tag; value = value }
@@ -55,3 +56,10 @@ counted (i ∷ is) n e = go (first && between 1 m 12) refl e
           high = rw q at (leb-true m 12 (range .1));
         }
     go false t e = absurd (let z : _≡_ {A = ℕ} 0 1 = cc in omega arith)
+
+pub counts : (is : List Item) → eqb (contactsNumber (contactsIn is)) 0 ≡ true → (n : ℕ) × CountHead is n
+counts is e = go (contactsIn is) refl e
+  where
+    go : (c : Contacts) → contactsIn is ≡ c → eqb (contactsNumber c) 0 ≡ true → (n : ℕ) × CountHead is n
+    go (Counted n) c e = (n, counted is n c)
+    go Uncounted c e = absurd (let z : _≡_ {A = ℕ} 0 1 = cc in omega arith)

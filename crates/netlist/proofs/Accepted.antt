@@ -11,11 +11,9 @@ use Rattle.fields.specs.declared.Framing.the-variants.{Whole, Broken}
 use Rattle.fields.specs.Fields.{Item, Fields, fieldsOf, valueIn}
 use Rattle.fields.specs.Refusals.{framingNumber, firstNo}
 use Rattle.fields.proofs.Bounded.{and-left, and-right}
-use Rattle.files.specs.declared.header.Contacts.{Contacts}
-use Rattle.files.specs.declared.header.Contacts.the-variants.{Counted, Uncounted}
 use Rattle.files.specs.Header.{contactsIn, contactsNumber, contactsOf, hasParts, areTwo}
-use Rattle.files.proofs.WholeParts.{HasParts, has-parts}
-use Rattle.files.proofs.Heads.{field, CountHead, counted}
+use Rattle.files.proofs.WholeParts.{HasParts, two-parts}
+use Rattle.files.proofs.Heads.{field, counts}
 use Rattle.netlist.specs.declared.form.Form.{Form}
 use Rattle.netlist.specs.declared.form.Form.the-variants.{Formed, Unformed}
 use Rattle.netlist.specs.declared.wiring.Wiring.the-variants.{Sound, Unsound}
@@ -37,25 +35,6 @@ pub record WellFormed (fs : Fields) (n : ℕ) : Type 0 where
 whole : (f : Framing) → eqb (framingNumber f) 0 ≡ true → f ≡ Whole
 whole Whole e = refl
 whole Broken e = absurd (let z : _≡_ {A = ℕ} 0 1 = cc in omega arith)
-
-counts : (is : List Item) → eqb (contactsNumber (contactsIn is)) 0 ≡ true → (n : ℕ) × CountHead is n
-counts is e = go (contactsIn is) refl e
-  where
-    go : (c : Contacts) → contactsIn is ≡ c → eqb (contactsNumber c) 0 ≡ true → (n : ℕ) × CountHead is n
-    go (Counted n) c e = (n, counted is n c)
-    go Uncounted c e = absurd (let z : _≡_ {A = ℕ} 0 1 = cc in omega arith)
-
-parts : (is : List Item) → areTwo (hasParts 4 5 0 10560) (hasParts 5 4 1 8) (drop 1 is) ≡ true →
-    (drop 1 is ≡ field 4 (valueIn is 1) ∷ field 5 (valueIn is 2) ∷ []) × HasParts 5 0 10560 (valueIn is 1) × HasParts 4 1 8 (valueIn is 2)
-unfolding areTwo
-parts [] e = absurd (let z : _≡_ {A = ℕ} 0 1 = cc in omega arith)
-parts (i ∷ []) e = absurd (let z : _≡_ {A = ℕ} 0 1 = cc in omega arith)
-parts (i ∷ b ∷ []) e = absurd (let z : _≡_ {A = ℕ} 0 1 = cc in omega arith)
-parts (i ∷ b ∷ c ∷ []) e =
-    let g = has-parts 4 5 0 10560 b (and-left (hasParts 4 5 0 10560 b) (hasParts 5 4 1 8 c) e) in
-    let p = has-parts 5 4 1 8 c (and-right (hasParts 4 5 0 10560 b) (hasParts 5 4 1 8 c) e) in
-    (λ t. g .0 t ∷ p .0 t ∷ [], g .1, p .1)
-parts (i ∷ b ∷ c ∷ d ∷ is) e = absurd (let z : _≡_ {A = ℕ} 0 1 = cc in omega arith)
 
 pub well-formed : (fs : Fields) (n : ℕ) → formOf fs ≡ Formed n → WellFormed fs n
 unfolding formOf
@@ -79,7 +58,7 @@ well-formed fs n e = go (a && b && c) refl e
         let (k, h) = counts (fs .items) (and-right a b l) in
         let same : n ≡ m = cc in
         let is-k : n ≡ k = same ∙ ap (λ (is : List Item). contactsOf is) (h .split) in
-        let p = parts (fs .items) (and-right (a && b) c t) in
+        let p = two-parts 4 5 0 10560 5 4 1 8 (fs .items) (and-right (a && b) c t) in
         record {
           whole = whole (fs .framing) (and-left a b l);
           contacts = same;

@@ -1,13 +1,14 @@
 -- What reading a netlist file gives, question by question, and what is known of the parts of one that is not refused.
 use native.Mathlib.Omega.{arith}
-use Prim.Native.Nat.{ℕ, zero, suc, _+_, _/_, _≤_}
-use mathlib.Core.Path.{_≡_, refl, sym, _∙_}
+use Prim.Native.Nat.{ℕ, suc, _+_, _/_, _≤_}
+use mathlib.Core.Path.{_≡_, sym, _∙_}
 use mathlib.Core.Bool.{true}
-use mathlib.Core.List.{List, [], _∷_}
+use mathlib.Core.List.{List}
 use lib.ListN.{length}
 use Rattle.fields.specs.Fields.{Item, fieldsOf, valueOf, valueIn}
 use Rattle.fields.specs.Refusals.{firstNo}
 use Rattle.fields.proofs.Bounded.{and-left, and-right}
+use Rattle.fields.proofs.Refusals.{first-only}
 use Rattle.files.specs.Header.{contactsOf}
 use Rattle.netlist.specs.declared.form.Form.the-variants.{Formed, Unformed}
 use Rattle.netlist.specs.declared.wiring.Wiring.the-variants.{Sound, Unsound}
@@ -17,11 +18,6 @@ use Rattle.netlist.specs.Questions.{formOf, areGates, arePairs, isSound,
 use Rattle.netlist.specs.Inner.Read.{Read}
 use Rattle.netlist.proofs.Accepted.{well-formed, accepted}
 use Rattle.netlist.proofs.Tests.{Bounds}
-
-only : (k : ℕ) → firstNo (k ∷ []) ≡ k
-unfolding firstNo
-only zero = refl
-only (suc k) = refl
 
 -- The parts of a netlist file that is not refused.
 pub record Opened (file : List ℕ) (n : ℕ) (gates outputs : List ℕ) : Type 0 where
@@ -51,7 +47,7 @@ module _ (file : List ℕ) where
   module _ {n : ℕ} {gates outputs : List ℕ} (f : formOf (fieldsOf file) ≡ Formed n) (g : gates ≡ valueIn is 1) (o : outputs ≡ valueIn is 2) where
     asked : netlistRefusal file ≡ wiringNumber (wiringOf n gates outputs)
     unfolding netlistRefusal firstNo
-    asked = rw (f, g, o, well-formed (fieldsOf file) n f .contacts) (only _)
+    asked = rw (f, g, o, well-formed (fieldsOf file) n f .contacts) (first-only _)
 
     pub unsound : {p : Parts} → wiringOf n gates outputs ≡ Unsound → p .refusal ≡ 12 → Read file p
     unsound w r = refused 11 (asked ∙ rw w) r

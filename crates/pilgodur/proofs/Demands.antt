@@ -14,6 +14,10 @@ use Rattle.simulation.specs.Service.{runRefusal, ranOr, runOf}
 use Rattle.sheet.specs.Sheet.{sheetOf}
 use Rattle.sheet.specs.Service.{sheetingOf}
 use Rattle.sheet.proofs.Promises.{sheet-determines, sheet-length}
+use Rattle.drawing.specs.Drawing.{drawingIn}
+use Rattle.drawing.specs.Service.{tableFor, drawingRefusal, fromDrawingOf}
+use Rattle.drawing.proofs.Promises.{table-of-drawing, one-table, seventeen-if-wide}
+use Rattle.drawing.proofs.GivenBack.{table-given-back}
 use Rattle.rules.specs.Board.{tableBoard}
 use Rattle.synthesis.specs.Service.{checkedOr, checkedOf, buildingOf}
 use Rattle.rules.proofs.Promises.{within-formulas, built-files-pass, right-code, different-netlists}
@@ -45,7 +49,7 @@ probe-refused zero net hold buffer k e = absurd (omega arith)
 probe-refused (suc r) net hold buffer k e = (refl, refl, refl, refl)
 
 refusals : Refusals
-unfolding checkedOf buildingOf readingOf runOf probingOf probeOf sheetingOf
+unfolding checkedOf buildingOf readingOf runOf probingOf probeOf sheetingOf fromDrawingOf
 refusals =
     record {
       check = λ table. check-refused (tableRefusal table) (tableBoard table);
@@ -56,6 +60,7 @@ refusals =
       probe = λ table hold buffer.
           probe-refused (probeRefusal table hold (length buffer)) (tableBoard table) (holdAt hold 0) buffer;
       sheet = λ netlist buffer. refused-writing (netlistRefusal netlist) (sheetOf (netlistIn netlist)) buffer;
+      fromDrawing = λ drawing buffer. refused-writing (drawingRefusal drawing) (tableFor (drawingIn drawing)) buffer;
     }
 
 pub demands : Demands
@@ -79,4 +84,11 @@ demands =
           };
       spare = record { gatesRead = gates-read; contacts = spare-contacts; unseen = unread-unseen };
       sheets = record { determines = sheet-determines; length = sheet-length };
+      drawings =
+          record {
+            table = table-of-drawing;
+            one = one-table;
+            seventeen = seventeen-if-wide;
+            back = table-given-back;
+          };
     }

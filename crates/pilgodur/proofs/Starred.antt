@@ -12,6 +12,11 @@ use Rattle.netlist.specs.Netlist.{anyOf, isRead, gatesOf, pairsOf, holdsOf, fil
 use Rattle.simulation.specs.Run.{drive, workOut, held, valuesOf, shownOf}
 use Rattle.netlist.specs.Questions.{formOf, isSound, areOrdered, netlistOf, netlistRefusal}
 use Rattle.simulation.specs.Service.{runRefusal, runOf}
+use Rattle.table.specs.Encode.{bytesOf}
+use Rattle.functions.specs.Functions.{same, tree, place, firsts, levelOf, isNarrow}
+use Rattle.drawing.specs.Drawing.{isAbove, isDrawing, next, lead}
+use Rattle.drawing.specs.Drawing as drawing
+use Rattle.drawing.specs.Service.{drawingRefusal, fromDrawingOf}
 use Rattle.rules.specs.Make.{_>>=_, sequence}
 use Rattle.rules.specs.Blocks.{cutWithin, cut, term, orTree, joined, productEntry, product, levelMatrix, block}
 use Rattle.rules.specs.Board.{wholeBlock, boardOf, depthsOf, depthOf}
@@ -26,6 +31,6 @@ use Rattle.pilgodur.specs.Answers.{probeOf}
 use mathlib.Core.List.{flatMap}
 
 pub all-starred : AllHold starred
-unfolding all any stepAt valueOf fieldsWithin fieldsFrom fieldsOf encoded contactsIn firstNo width edgeAt root inputOf inRange distinct mention mentions brought numbered outputsIn areLevels padded diagramOf fieldsRefusal diagramRefusal tableRefusal listed anyOf isRead gatesOf pairsOf holdsOf fileOf fileWith drive workOut held valuesOf shownOf areTwo formOf isSound areOrdered netlistOf netlistRefusal runRefusal runOf _>>=_ sequence cutWithin cut term orTree joined productEntry product levelMatrix block wholeBlock boardOf depthsOf depthOf codeRails checkedOf writingOf buildingOf stuckAt noCode betrays leastFrom probeRefusal probingOf probeOf decimal inFive rowText numberedRows rowsFrom sheetOf sheetingOf flatMap
+unfolding all any stepAt valueOf fieldsWithin fieldsFrom fieldsOf encoded contactsIn firstNo width edgeAt root inputOf inRange distinct mention mentions brought numbered outputsIn areLevels padded diagramOf fieldsRefusal diagramRefusal tableRefusal listed anyOf isRead gatesOf pairsOf holdsOf fileOf fileWith drive workOut held valuesOf shownOf areTwo formOf isSound areOrdered netlistOf netlistRefusal runRefusal runOf _>>=_ sequence cutWithin cut term orTree joined productEntry product levelMatrix block wholeBlock boardOf depthsOf depthOf codeRails checkedOf writingOf buildingOf stuckAt noCode betrays leastFrom probeRefusal probingOf probeOf decimal inFive rowText numberedRows rowsFrom sheetOf sheetingOf flatMap bytesOf same tree place firsts levelOf isNarrow isAbove isDrawing next lead drawing.formOf drawingRefusal fromDrawingOf
 all-starred =
-    (refl, ((refl, refl, refl), ((refl, refl), ((refl, refl), (refl, (refl, ((refl, refl), (refl, ((refl, refl, refl), (refl, (refl, (refl, ((refl, refl, refl), (refl, (refl, (refl, (refl, ((refl, refl, refl), (refl, ((refl, refl, refl), tt))))))))))))))))))))
+    (refl, ((refl, refl, refl), ((refl, refl), ((refl, refl), (refl, (refl, ((refl, refl), (refl, ((refl, refl, refl), (refl, (refl, (refl, ((refl, refl, refl), (refl, (refl, (refl, (refl, ((refl, refl, refl), ((refl, refl, refl), ((refl, refl, refl), ((refl, refl, refl), ((refl, refl, refl), ((refl, refl, refl), ((refl, refl, refl), (refl, ((refl, refl, refl), tt))))))))))))))))))))))))))

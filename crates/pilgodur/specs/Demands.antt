@@ -1,8 +1,8 @@
 -- The three demands and what was promised since, on the definitions that the services' contracts cite.
 --
 -- The services return and write just what these definitions say, for every byte string (the contracts in src/lib.rt):
--- check `checkedOf`, build `buildingOf`, read-off `readingOf`, run `runOf`, probe `probeOf`, sheet `sheetingOf`. That each call is
--- answered, and that nothing else is written, is what the proof of every function's contract says.
+-- check `checkedOf`, build `buildingOf`, read-off `readingOf`, run `runOf`, probe `probeOf`, sheet `sheetingOf`, from-drawing
+-- `fromDrawingOf`. That each call is answered, and that nothing else is written, is what the proof of every function's contract says.
 use Prim.Native.Nat.{ℕ, suc}
 use mathlib.Core.Path.{_≡_}
 use mathlib.Core.List.{List}
@@ -10,6 +10,8 @@ use Rattle.table.specs.Table.{readingOf}
 use Rattle.simulation.specs.Service.{runOf}
 use Rattle.sheet.specs.Service.{sheetingOf}
 use Rattle.sheet.specs.Promises.{SheetDetermines, SheetLength}
+use Rattle.drawing.specs.Service.{fromDrawingOf}
+use Rattle.drawing.specs.Promises.{TableOfDrawing, OneTable, SeventeenIfWide, TableGivenBack}
 use Rattle.synthesis.specs.Service.{checkedOf, buildingOf}
 use Rattle.rules.specs.Promises.{WithinFormulas, BuiltFilesPass, RightCode, DifferentNetlists}
 use Rattle.pilgodur.specs.Answers.{probeOf}
@@ -32,6 +34,8 @@ pub record Refusals : Type 0 where
       × (probeOf table hold buffer .answer .way ≡ 0) × (probeOf table hold buffer .buffer ≡ buffer)
   pub sheet : (netlist buffer : List ℕ) (k : ℕ) → sheetingOf netlist buffer .refusal ≡ suc k →
       (sheetingOf netlist buffer .length ≡ 0) × (sheetingOf netlist buffer .buffer ≡ buffer)
+  pub fromDrawing : (drawing buffer : List ℕ) (k : ℕ) → fromDrawingOf drawing buffer .refusal ≡ suc k →
+      (fromDrawingOf drawing buffer .length ≡ 0) × (fromDrawingOf drawing buffer .buffer ≡ buffer)
 
 -- Demand 2. The netlist of an accepted table is the one that the rules give: `buildingOf` and `checkedOf` speak of `boardOf`. It is
 -- within the formulas for gates and depth; each pair shows the table's value and its opposite; two different accepted tables have
@@ -64,9 +68,18 @@ pub record Sheets : Type 0 where
   pub determines : SheetDetermines
   pub length : SheetLength
 
+-- Drawings. The result is an accepted table with the drawing's contacts, outputs and words; drawings of the same functions get one table;
+-- 17 is given exactly if a level would have more than eight functions; the drawing of an accepted table gives it back.
+pub record Drawings : Type 0 where
+  pub table : TableOfDrawing
+  pub one : OneTable
+  pub seventeen : SeventeenIfWide
+  pub back : TableGivenBack
+
 pub record Demands : Type 0 where
   pub first : Refusals
   pub second : Netlists
   pub third : StuckLines
   pub spare : SpareLines
   pub sheets : Sheets
+  pub drawings : Drawings

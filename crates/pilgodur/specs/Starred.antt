@@ -7,17 +7,20 @@ use lib.ListN.{length, replicate}
 use Rattle.simulation.specs.Service.{runOf}
 use Rattle.sheet.specs.Sheet.{ascii}
 use Rattle.sheet.specs.Service.{sheetingOf}
+use Rattle.drawing.specs.Service.{fromDrawingOf}
 use Rattle.synthesis.specs.Service.{checkedOf, buildingOf}
 use Rattle.pilgodur.specs.Answers.{probeOf}
 
 -- What a service answers: check's numbers; the file that build writes to a buffer of its length; the pairs that a run of a netlist
--- writes; probe's numbers; the lines of the sheet of a netlist, written to a buffer of its length.
+-- writes; probe's numbers; the lines of the sheet of a netlist, written to a buffer of its length; the table of a drawing, written to
+-- a buffer of its length, or the refusal and no table.
 pub data Case : Type 0 where
   checks : (table : List ℕ) (refusal contacts outputs gates depth : ℕ) → Case
   builds : (table : List ℕ) (size : ℕ) (file : List ℕ) → Case
   runs : (netlist rails holds pairs : List ℕ) → Case
   probes : (table hold : List ℕ) (refusal input output way : ℕ) → Case
   sheets : (netlist : List ℕ) (lines : List String) → Case
+  draws : (drawing : List ℕ) (refusal : ℕ) (table : List ℕ) → Case
 
 -- Buffers that are always long enough here.
 abbrev room : List ℕ
@@ -35,6 +38,8 @@ Answered (probes table hold refusal input output way) =
 Answered (sheets netlist lines) =
     let text = flatMap (λ (line : String). ascii line ++ ascii "\n") lines in
     let s = sheetingOf netlist (replicate (length text) 0) in (s .refusal ≡ 0) × (s .length ≡ length text) × (s .buffer ≡ text)
+Answered (draws drawing refusal table) =
+    let d = fromDrawingOf drawing (replicate (length table) 0) in (d .refusal ≡ refusal) × (d .length ≡ length table) × (d .buffer ≡ table)
 
 abbrev pub AllHold : List Case → Type 0
 AllHold [] = Unit
@@ -108,6 +113,47 @@ chooserFile =
     ∷ 0 ∷ 0 ∷ 4 ∷ 0 ∷ 16
     ∷ 5 ∷ 0 ∷ 8 ∷ 0 ∷ 30 ∷ 0 ∷ 25 ∷ 0 ∷ 33 ∷ 0 ∷ 32 ∷ []
 
+-- The selector drawn with a node twice, a node that nothing mentions, and edges past a level.
+abbrev pub redrawn : List ℕ
+redrawn =
+    1 ∷ 0 ∷ 1 ∷ 3 ∷ 2 ∷ 0 ∷ 1 ∷ 2 ∷ 7 ∷ 0 ∷ 18
+    ∷ 0 ∷ 3 ∷ 4
+    ∷ 1 ∷ 5 ∷ 0
+    ∷ 1 ∷ 6 ∷ 1
+    ∷ 2 ∷ 0 ∷ 1
+    ∷ 2 ∷ 0 ∷ 1
+    ∷ 2 ∷ 1 ∷ 0
+    ∷ []
+
+-- Five outputs of three contacts. With contact 0 fixed they leave seven functions of the others (numbers 4 to 10), the constant 0, and
+-- what the last output leads to.
+abbrev pub halves : ℕ → List ℕ
+halves last =
+    1 ∷ 0 ∷ 1 ∷ 3 ∷ 2 ∷ 0 ∷ 5 ∷ 11 ∷ 12 ∷ 13 ∷ 14 ∷ 15 ∷ 7 ∷ 0 ∷ 42
+    ∷ 2 ∷ 0 ∷ 1
+    ∷ 2 ∷ 1 ∷ 0
+    ∷ 1 ∷ 0 ∷ 1
+    ∷ 1 ∷ 1 ∷ 0
+    ∷ 1 ∷ 0 ∷ 2
+    ∷ 1 ∷ 2 ∷ 1
+    ∷ 1 ∷ 2 ∷ 3
+    ∷ 1 ∷ 3 ∷ 2
+    ∷ 1 ∷ 1 ∷ 2
+    ∷ 0 ∷ 4 ∷ 5
+    ∷ 0 ∷ 6 ∷ 7
+    ∷ 0 ∷ 8 ∷ 9
+    ∷ 0 ∷ 10 ∷ 0
+    ∷ 0 ∷ 5 ∷ last
+    ∷ []
+
+abbrev pub halvesTable : List ℕ
+halvesTable =
+    1 ∷ 0 ∷ 1 ∷ 3 ∷ 2 ∷ 0 ∷ 5 ∷ 0 ∷ 1 ∷ 2 ∷ 3 ∷ 4
+    ∷ 3 ∷ 0 ∷ 10 ∷ 0 ∷ 1 ∷ 2 ∷ 3 ∷ 4 ∷ 5 ∷ 6 ∷ 7 ∷ 1 ∷ 0
+    ∷ 3 ∷ 0 ∷ 16 ∷ 0 ∷ 1 ∷ 1 ∷ 0 ∷ 0 ∷ 2 ∷ 2 ∷ 1 ∷ 2 ∷ 3 ∷ 3 ∷ 2 ∷ 1 ∷ 2 ∷ 0 ∷ 0
+    ∷ 3 ∷ 0 ∷ 8 ∷ 0 ∷ 0 ∷ 1 ∷ 1 ∷ 0 ∷ 1 ∷ 1 ∷ 0
+    ∷ []
+
 abbrev pub starred : List Case
 starred =
     checks selector 0 3 1 9 4
@@ -145,6 +191,15 @@ starred =
     ∷ "   16 OR     15    12"
     ∷ "    0 OUT    16    14"
     ∷ [])
+    ∷ draws redrawn 0 selector
+    -- The constant 1, from no node.
+    ∷ draws (1 ∷ 0 ∷ 1 ∷ 1 ∷ 2 ∷ 0 ∷ 1 ∷ 1 ∷ 7 ∷ 0 ∷ 0 ∷ []) 0 (1 ∷ 0 ∷ 1 ∷ 1 ∷ 2 ∷ 0 ∷ 1 ∷ 0 ∷ 3 ∷ 0 ∷ 2 ∷ 1 ∷ 1 ∷ [])
+    -- Two contacts: an edge to a node of the same level; such an edge of a node that nothing mentions.
+    ∷ draws (1 ∷ 0 ∷ 1 ∷ 2 ∷ 2 ∷ 0 ∷ 1 ∷ 2 ∷ 7 ∷ 0 ∷ 6 ∷ 0 ∷ 3 ∷ 1 ∷ 0 ∷ 0 ∷ 1 ∷ []) 16 []
+    ∷ draws (1 ∷ 0 ∷ 1 ∷ 2 ∷ 2 ∷ 0 ∷ 1 ∷ 1 ∷ 7 ∷ 0 ∷ 3 ∷ 1 ∷ 0 ∷ 2 ∷ []) 16 []
+    -- Eight functions of contacts 1 and 2, and nine.
+    ∷ draws (halves 4) 0 halvesTable
+    ∷ draws (halves 1) 17 []
     -- Beyond the starred cases: two rows, both blocks with gates, and ORs of three and four terms.
     ∷ checks chooser 0 4 2 24 5
     ∷ builds chooser 138 chooserFile

@@ -7,6 +7,7 @@ ghost use mathlib.Core.Path.{_≡_};
 ghost use Rattle.table.specs.Table.{readingOf};
 ghost use Rattle.simulation.specs.Service.{runOf};
 ghost use Rattle.sheet.specs.Service.{sheetingOf};
+ghost use Rattle.drawing.specs.Service.{fromDrawingOf};
 ghost use Rattle.synthesis.specs.Service.{checkedOf, buildingOf};
 ghost use Rattle.pilgodur.specs.Answers.{wayNumber, probeOf};
 
@@ -92,4 +93,13 @@ pub extern "C" fn pilgodur_sheet(netlist: &[u8], text: &mut [u8]) -> Written
         ≡ sheetingOf (now (netlist .entry)) (now (text .entry)) ⌝ }
 {
     sheet::sheet(netlist, text)
+}
+
+// Writes the table of a drawing's functions: question 16, then 17, then 9; the table's bytes and its length.
+#[no_mangle]
+pub extern "C" fn pilgodur_from_drawing(drawing: &[u8], table: &mut [u8]) -> Written
+    ensures { λ r. ⌜ record { refusal = r .refusal; length = r .length; buffer = now (table .exit) }
+        ≡ fromDrawingOf (now (drawing .entry)) (now (table .entry)) ⌝ }
+{
+    drawing::from_drawing(drawing, table)
 }

@@ -1,5 +1,5 @@
 -- What an accepted table file is: its shape, and that its diagram passes questions 5 to 7.
-use Prim.Native.Nat.{ℕ, zero, suc}
+use Prim.Native.Nat.{ℕ}
 use native.Mathlib.Omega.{arith}
 use mathlib.Core.Path.{_≡_, refl}
 use mathlib.Core.Bool.{Bool, true, false, cond}
@@ -8,6 +8,7 @@ use lib.ListN.{drop}
 use Rattle.fields.specs.declared.Framing.the-variants.{Whole}
 use Rattle.fields.specs.Fields.{fieldsOf}
 use Rattle.fields.specs.Refusals.{firstNo}
+use Rattle.fields.proofs.Refusals.{first-yes}
 use Rattle.files.specs.declared.header.Contacts.the-variants.{Counted}
 use Rattle.files.specs.Header.{contactsIn}
 use Rattle.diagram.specs.declared.Diagram.{Diagram}
@@ -28,13 +29,6 @@ pub record AcceptedTable (file : List ℕ) : Type 0 where
   pub sized : Sized (diagramIn file)
   pub reduced : Reduced (diagramIn file)
 
--- Both parts of a list of two numbers whose first that is not 0 is none.
-first-none : (a b : ℕ) → firstNo (a ∷ b ∷ []) ≡ 0 → (a ≡ 0) × (b ≡ 0)
-unfolding firstNo
-first-none zero zero e = (refl, refl)
-first-none zero (suc b) e = absurd (omega arith)
-first-none (suc a) b e = absurd (omega arith)
-
 -- A diagram that no question refuses.
 pub reduced : (d : Diagram) → diagramRefusal d ≡ 0 → Reduced d
 unfolding diagramRefusal firstNo
@@ -52,13 +46,13 @@ reduced d z = go (inRange d) (distinct d) (numbered d) refl refl refl z
 pub accepted : (file : List ℕ) → tableRefusal file ≡ 0 → AcceptedTable file
 unfolding tableRefusal
 accepted file z =
-    let none = first-none (fieldsRefusal file) (diagramRefusal (diagramIn file)) z in
-    let s = shaped file (none .0) in
+    let (asked, rest) = first-yes (fieldsRefusal file) (diagramRefusal (diagramIn file) ∷ []) z in
+    let s = shaped file asked in
     record {
       framing = s .framing;
       contacts = s .contacts;
       outputs = s .outputs;
       levels = s .levels;
       sized = sized file s;
-      reduced = reduced (diagramIn file) (none .1);
+      reduced = reduced (diagramIn file) (first-yes (diagramRefusal (diagramIn file)) [] rest .0);
     }

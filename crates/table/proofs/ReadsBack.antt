@@ -1,9 +1,9 @@
 -- What is written reads back as it was: the file of a diagram holds that diagram.
-use Prim.Native.Nat.{ℕ, zero, suc, _*_, _/_, _%_, _≤_, _<_}
+use Prim.Native.Nat.{ℕ, suc, _*_, _/_, _%_, _≤_, _<_}
 use native.Mathlib.Decide.{decLt}
 use native.Mathlib.Nat.{div-add-mod', eq-or-lt-of-le}
 use native.Mathlib.Omega.{arith}
-use mathlib.Core.Path.{_≡_, refl, sym, ap, ap₂, _∙_}
+use mathlib.Core.Path.{_≡_, sym, ap, ap₂, _∙_}
 use mathlib.Core.Logic.{⊎-elim}
 use mathlib.Core.Bool.{true}
 use mathlib.Core.List.{List, [], _∷_}
@@ -12,6 +12,7 @@ use lib.Seq.{ext-getD}
 use Rattle.fields.specs.Fields.{Bytes, Item}
 use Rattle.fields.specs.Bounded.{listed}
 use Rattle.fields.specs.Refusals.{firstNo}
+use Rattle.fields.proofs.Refusals.{first-last}
 use Rattle.fields.proofs.Listed.{length-listed, listed-at}
 use Rattle.diagram.specs.declared.Diagram.{Diagram}
 use Rattle.diagram.specs.Diagram.{width, edgeAt, root}
@@ -26,11 +27,6 @@ use Rattle.table.proofs.Decoded.{half}
 use Rattle.table.proofs.Laid.{width-of, edge-of, root-of}
 use Rattle.table.proofs.Padded.{length-padded}
 use Rattle.table.proofs.Written.{Limits, diagram-back, level-back, fields-pass, bytes-back}
-
-first-last : (k : ℕ) → firstNo (0 ∷ k ∷ []) ≡ k
-unfolding firstNo
-first-last zero = refl
-first-last (suc k) = refl
 
 -- A list by place of numbers that are 0 from n on.
 listed-zeros : (n : ℕ) (f : ℕ → ℕ) (i : ℕ) → (n ≤ i → f i ≡ 0) → getD (listed f n 0) i 0 ≡ f i

@@ -1,4 +1,5 @@
-// What a case shows of files, tables, runs and sheets.
+// What a case shows of files, tables, drawings, runs and sheets.
+pub mod drawings;
 pub mod rows;
 pub mod runs;
 pub mod sheets;

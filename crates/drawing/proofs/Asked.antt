@@ -1,0 +1,92 @@
+-- What a yes to question 16 says of a file.
+use Prim.Native.Nat.{ℕ, _≤_, _<_}
+use native.Mathlib.Omega.{arith}
+use mathlib.Core.Path.{_≡_, refl, sym, ap}
+use mathlib.Core.Bool.{Bool, true, false, _&&_, cond}
+use mathlib.Core.List.{List}
+use lib.Dec.{eqb}
+use lib.ListN.{length, drop}
+use Rattle.fields.specs.Fields.{Item, Fields, fieldsOf, valueIn}
+use Rattle.fields.specs.Refusals.{framingNumber}
+use Rattle.fields.proofs.Bounded.{and-left, and-right}
+use Rattle.files.specs.Header.{contactsIn, contactsNumber, contactsOf, hasParts, areTwo}
+use Rattle.files.proofs.Heads.{counts}
+use Rattle.files.proofs.WholeParts.{two-parts}
+use Rattle.functions.proofs.Trees.{Values}
+use Rattle.drawing.specs.declared.form.Form.the-variants.{Formed, Unformed}
+use Rattle.drawing.specs.Drawing.{Drawing, drawingOf, drawingIn, nodeCount, isDrawing, formOf, formNumber, drawnAt}
+use Rattle.drawing.specs.Promises.{WellFormed}
+use Rattle.drawing.proofs.Leads.{drawn-values}
+
+pub record Limited (d : Drawing) : Type 0 where
+  pub contacts : (1 ≤ d .contacts) × (d .contacts ≤ 12)
+  pub outputs : (1 ≤ length (d .outputs)) × (length (d .outputs) ≤ 8)
+  pub nodes : nodeCount (d .nodes) ≤ 200
+  pub sound : isDrawing d ≡ true
+
+-- Question 16.
+abbrev isFormed : Fields → Bool
+isFormed fs =
+    eqb (framingNumber (fs .framing)) 0
+    && eqb (contactsNumber (contactsIn (fs .items))) 0
+    && areTwo (hasParts 2 1 1 8) (hasParts 7 3 0 200) (drop 1 (fs .items))
+    && isDrawing (drawingOf (fs .items))
+
+limited-fields : (fs : Fields) → formNumber (formOf fs) ≡ 0 → Limited (drawingOf (fs .items))
+unfolding formOf
+limited-fields fs e = go (isFormed fs) refl e
+  where
+    a : Bool
+    a = eqb (framingNumber (fs .framing)) 0
+
+    b : Bool
+    b = eqb (contactsNumber (contactsIn (fs .items))) 0
+
+    c : Bool
+    c = areTwo (hasParts 2 1 1 8) (hasParts 7 3 0 200) (drop 1 (fs .items))
+
+    s : Bool
+    s = isDrawing (drawingOf (fs .items))
+
+    go : (t : Bool) → isFormed fs ≡ t → formNumber (cond t (Formed (contactsOf (fs .items))) Unformed) ≡ 0 →
+        Limited (drawingOf (fs .items))
+    go true t e =
+        let l = and-left (a && b && c) s t in
+        let (n, h) = counts (fs .items) (and-right a b (and-left (a && b) c l)) in
+        let is : contactsOf (fs .items) ≡ n = ap (λ (is : List Item). contactsOf is) (h .split) in
+        let p = two-parts 2 1 1 8 7 3 0 200 (fs .items) (and-right (a && b) c l) in
+        record {
+          contacts = (omega (arith, h .low), omega (arith, h .high));
+          outputs = (omega (arith, p .1 .least), omega (arith, p .1 .most));
+          nodes = p .2 .most;
+          sound = and-right (a && b && c) s t;
+        }
+    go false t e = absurd (omega arith)
+
+pub limited : (file : List ℕ) → WellFormed file → Limited (drawingIn file)
+limited file w = limited-fields (fieldsOf file) w
+
+pub limited-values : (d : Drawing) → Limited d → (j : ℕ) → j < length (d .outputs) → Values (d .contacts) (drawnAt d j)
+limited-values d l = drawn-values d (l .sound) (l .contacts .0)
+
+-- The parts of a file that question 16 lets through.
+pub record Opened (file : List ℕ) (d : Drawing) : Type 0 where
+  pub is : d ≡ drawingIn file
+  pub well : WellFormed file
+  pub limited-parts : Limited d
+
+formed-count : (fs : Fields) (n : ℕ) → formOf fs ≡ Formed n → contactsOf (fs .items) ≡ n
+unfolding formOf
+formed-count fs n e = go (isFormed fs) e
+  where
+    go : (b : Bool) → cond b (Formed (contactsOf (fs .items))) Unformed ≡ Formed n → contactsOf (fs .items) ≡ n
+    go true e = cc
+    go false e = absurd (let z : _≡_ {A = ℕ} 0 1 = cc in omega arith)
+
+pub opened : (file : List ℕ) {n : ℕ} {outputs nodes : List ℕ} → formOf (fieldsOf file) ≡ Formed n → outputs ≡ valueIn (fieldsOf file .items) 1 →
+    nodes ≡ valueIn (fieldsOf file .items) 2 → Opened file (record { contacts = n; outputs = outputs; nodes = nodes })
+opened file {n} {outputs} {nodes} f o s =
+    let c = sym (formed-count (fieldsOf file) n f) in
+    let e : record { contacts = n; outputs = outputs; nodes = nodes } ≡ drawingIn file = λ i. record { contacts = c i; outputs = o i; nodes = s i } in
+    let w : WellFormed file = ap formNumber f in
+    record { is = e; well = w; limited-parts = rw e (limited file w) }

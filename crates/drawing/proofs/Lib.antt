@@ -1,0 +1,14 @@
+pub mod Leads
+pub mod Forms
+pub mod Rows
+pub mod LevelRows
+pub mod Outputs
+pub mod Asked
+pub mod Answers
+pub mod Outcomes
+pub mod Runs
+pub mod Placed
+pub mod Redrawn
+pub mod Files
+pub mod GivenBack
+pub mod Promises

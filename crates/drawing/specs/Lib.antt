@@ -1,0 +1,4 @@
+pub mod Drawing
+pub mod Service
+pub mod Promises
+pub mod Inner

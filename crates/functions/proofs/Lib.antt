@@ -1,0 +1,13 @@
+pub mod Places
+pub mod Firsts
+pub mod Joined
+pub mod Trees
+pub mod Levels
+pub mod Agreeing
+pub mod Numbers
+pub mod Diagrams
+pub mod Passed
+pub mod Canonical
+pub mod Pigeonhole
+pub mod Wide
+pub mod Back
