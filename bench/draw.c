@@ -1,5 +1,6 @@
-/* The command that makes a table from a drawing, and what it says of one that is malformed. */
+/* The command that makes a table from a drawing, and what it says of one that is malformed or too wide. */
 #include <stdarg.h>
+#include <string.h>
 
 #include "../include/pilgodur.h"
 #include "commands.h"
@@ -12,7 +13,7 @@ enum { CONTACTS, OUTPUTS, NODES, FIELDS };
 static const char *const field_names[FIELDS] = {"first", "second", "third"};
 static const uint8_t tags[FIELDS] = {1, 2, 7};
 
-/* What is wrong with a drawing, in words. */
+/* What is wrong with a drawing, in words after a colon; nothing if it is not known. */
 struct fault {
     char text[320];
 };
@@ -29,8 +30,9 @@ __attribute__((format(printf, 2, 3)))
 static bool say(struct fault *fault, const char *format, ...)
 {
     va_list args;
+    int start = snprintf(fault->text, sizeof fault->text, ": ");
     va_start(args, format);
-    vsnprintf(fault->text, sizeof fault->text, format, args);
+    vsnprintf(fault->text + start, sizeof fault->text - (size_t)start, format, args);
     va_end(args);
     return true;
 }
@@ -134,17 +136,74 @@ static bool find_fault(const struct drawing *drawing, struct fault *fault)
     return false;
 }
 
+/* The values of every output, contact 0 weighing most in their places, so that fixing the first contacts leaves a part of them. */
+struct values {
+    unsigned contacts, outputs;
+    uint8_t of[DRAWING_OUTPUTS][1 << 12];
+};
+
+static void put_values(const uint8_t *bytes, struct values *v)
+{
+    v->contacts = bytes[3];
+    v->outputs = bytes[6];
+    const uint8_t *nodes = bytes + 7 + v->outputs + 3;
+    for (unsigned j = 0; j < v->outputs; j++)
+        for (unsigned place = 0; place < 1u << v->contacts; place++) {
+            uint8_t number = bytes[7 + j];
+            while (number > 1) {
+                const uint8_t *node = nodes + 3 * (number - 2);
+                number = node[1 + (place >> (v->contacts - 1 - node[0]) & 1)];
+            }
+            v->of[j][place] = number;
+        }
+}
+
+/* Whether fixing so many first contacts leaves more than eight functions. */
+static bool is_wide(const struct values *v, unsigned fixed)
+{
+    const uint8_t *function[8];
+    unsigned count = 0;
+    size_t size = (size_t)1 << (v->contacts - fixed);
+    for (unsigned j = 0; j < v->outputs; j++)
+        for (unsigned way = 0; way < 1u << fixed; way++) {
+            unsigned k = 0;
+            while (k < count && memcmp(function[k], v->of[j] + way * size, size) != 0)
+                k++;
+            if (k == 8)
+                return true;
+            if (k == count)
+                function[count++] = v->of[j] + way * size;
+        }
+    return false;
+}
+
+/* What question 17 says no to: the fewest contacts. One is fixed at least, since there are at most eight outputs. */
+static void find_width(const struct drawing *drawing, struct fault *fault)
+{
+    static struct values v;
+    unsigned fixed = 1;
+    put_values(drawing->bytes, &v);
+    while (fixed < v.contacts && !is_wide(&v, fixed))
+        fixed++;
+    if (fixed == 1)
+        say(fault, "fixing contact 0 leaves more than eight functions");
+    else
+        say(fault, "fixing contacts 0 to %u leaves more than eight functions", fixed - 1);
+}
+
 enum status draw(struct request *request, FILE *out)
 {
     uint8_t table[PILGODUR_TABLE_MAX];
     struct drawing drawing;
-    struct fault fault;
+    struct fault fault = {""};
     read_drawing(load_operand(request, 0), &drawing);
     pilgodur_built made = pilgodur_from_drawing(drawing.bytes, drawing.length, table, sizeof table);
-    if (made.refusal == PILGODUR_REFUSAL_DRAWING && find_fault(&drawing, &fault))
-        refuse(made.refusal, "%s: %s", drawing.name, fault.text);
+    if (made.refusal == PILGODUR_REFUSAL_DRAWING)
+        find_fault(&drawing, &fault);
+    if (made.refusal == PILGODUR_REFUSAL_FUNCTIONS)
+        find_width(&drawing, &fault);
     if (made.refusal != 0)
-        refuse(made.refusal, "%s", drawing.name);
+        refuse(made.refusal, "%s%s", drawing.name, fault.text);
     show_file(out, table, made.length, request->output == NULL);
     free_drawing(&drawing);
     return ANSWERED;

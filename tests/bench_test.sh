@@ -229,6 +229,8 @@ pipe 'nodes 200 "n0 n12 n24 n199" | pilgodur draw -'
 try draw eight.drawing
 try draw nine.drawing
 try draw nine.drawing -o gallery.table
+pipe 'text "contacts 4" "outputs x y v k" "x 0 a b" "y 0 c d" "v 0 e f" "k 0 g h" "a 1 p q" "b 1 r s" "c 1 t u" "d 1 w z" "e 1 0 p" \
+    "f 1 q r" "g 1 p z" "h 1 z p" "p 2 0 1" "q 2 1 0" "r 2 0 z" "s 2 z 1" "t 2 z n" "u 2 n z" "w 2 1 z" "z 3 0 1" "n 3 1 0"'
 pipe 'pilgodur draw gallery.drawing -o - | cmp - gallery.table'
 # Question 16: fields.
 for drawing in '' 01 0100 010001 01000101 0100010102 01000101020001 01000101020001000700 0100010102000100070003 \

@@ -7,8 +7,8 @@ ghost use Rattle.diagram.specs.Diagram.{inputOf};
 ghost use Rattle.drawing.specs.Drawing.{nodeCount, isDrawing};
 ghost use Rattle.drawing.specs.Inner.Rows.{Ready, Row, Chosen, ConstantsTo, Copied, RowsFrom, LevelTo, Tabulated};
 
-// The row of a node: it follows one row where a contact is closed, another where it is open. The contact is bit `place` of a truth
-// table's places; the first six bits are the same in each word.
+// A node's row: it follows one row where its contact is closed, another where it is open. The contact is bit `place` of a truth
+// table's places; a bit below 6 has one pattern in every word.
 fn mix(values: &mut [u64], words: usize, place: usize, to: usize, zero: usize, one: usize)
     requires { ⌜ (place < 6) × (words ≤ 64) × (to + words ≤ length (now values))
         × Row words to (length (now values)) zero × Row words to (length (now values)) one ⌝ }
@@ -23,7 +23,7 @@ fn mix(values: &mut [u64], words: usize, place: usize, to: usize, zero: usize, o
     }
 }
 
-// The row that word w follows where the contact is one of the others.
+// The row that word w follows: a bit from 6 on has one value in a word.
 fn source(w: usize, place: usize, zero: usize, one: usize) -> usize
     requires { ⌜ (place < 12) × (w ≤ 64) ⌝ }
     ensures { λ r. ⌜ r ≡ cond (inputOf (64 * w) place) one zero ⌝ }
@@ -35,7 +35,7 @@ fn source(w: usize, place: usize, zero: usize, one: usize) -> usize
     }
 }
 
-// The same where the contact is one of the others, which have one value in a word.
+// A node's row where its contact is such a bit.
 fn pick(values: &mut [u64], words: usize, place: usize, to: usize, zero: usize, one: usize)
     requires { ⌜ (6 ≤ place) × (place < 12) × (words ≤ 64) × (to + words ≤ length (now values))
         × Row words to (length (now values)) zero × Row words to (length (now values)) one ⌝ }
@@ -47,6 +47,7 @@ fn pick(values: &mut [u64], words: usize, place: usize, to: usize, zero: usize, 
     }
 }
 
+// A node's row, by either way.
 fn choose(values: &mut [u64], words: usize, place: usize, to: usize, zero: usize, one: usize)
     requires { ⌜ (place < 12) × (words ≤ 64) × (to + words ≤ length (now values))
         × Row words to (length (now values)) zero × Row words to (length (now values)) one ⌝ }
