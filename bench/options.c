@@ -43,7 +43,7 @@ static const struct option options[] = {
 static const char help[] =
     "usage: pilgodur COMMAND OPERAND... [OPTION...]\n"
     "\n"
-    "  draw DRAWING [-o FILE]          make the table of a drawing; without -o show it as hex: text\n"
+    "  draw DRAWING [-o TABLE]         make the table of a drawing; without -o show it as hex: text\n"
     "  check TABLE                     ask the table's questions; show contacts, outputs, gates, depth and spare contacts\n"
     "  build TABLE [-o FILE]           build the netlist; without -o show it as hex: text\n"
     "  list TABLE|NETLIST              print the gate sheet: a row for each gate, then one for each output\n"

@@ -50,6 +50,7 @@ abbrev pub isNode : ℕ → List ℕ → ℕ → Bool
 isNode n nodes i =
     let l = levelIn nodes i in ltb l n && isAbove nodes l (edgeIn nodes i false) && isAbove nodes l (edgeIn nodes i true)
 
+-- Each node is so, and each output is a constant or a listed node.
 unfoldable pub isDrawing : Drawing → Bool
 isDrawing d =
     all (nodeCount (d .nodes)) (isNode (d .contacts) (d .nodes))

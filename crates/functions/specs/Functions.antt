@@ -21,6 +21,7 @@ half b (constant v) = constant v
 half false (choice f g) = f
 half true (choice f g) = g
 
+-- Whether two functions are the same.
 unfoldable pub same : Function → Function → Bool
 same (constant v) (constant w) = eqb v w
 same (constant v) (choice h k) = false
