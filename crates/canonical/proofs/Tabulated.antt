@@ -12,7 +12,7 @@ use lib.Arith.{digits-div, digits-mod}
 use lib.Dec.{eqb}
 use lib.Pow.{pow-pos, shr-shr}
 use Rattle.diagram.specs.Diagram.{Input, inputOf}
-use Rattle.functions.specs.Functions.{constant, choice, set, tree, functionsOf}
+use Rattle.functions.specs.Functions.{constant, choice, withContact, tree, functionsOf}
 use Rattle.functions.proofs.Trees.{Values}
 use Rattle.canonical.specs.Inner.Blocks.{bitIn, blockAt, outputAt, inputAt}
 
@@ -78,21 +78,21 @@ module _ (n : ℕ) (ws : List ℕ) (s : ℕ) (v : Input → ℕ) (values : Value
       ap constant (tabulated q (omega arith) ∙ sym (values .first x (inputAt n q) (λ i h. same i (omega arith))))
   block-tree (suc left) l q x p whole within same =
       ap₂ choice
-      (block-tree left (suc l) q (set l false x) (omega arith) (half-whole q left whole) (omega arith) (λ i h.
+      (block-tree left (suc l) q (withContact l false x) (omega arith) (half-whole q left whole) (omega arith) (λ i h.
       by-cases (ℕ-discrete i l) (λ e. at-own false i e ∙ sym (ap (inputOf q) (place i e) ∙ bit-open q left whole))
       (λ ne. at-other false i ne ∙ same i (omega arith))))
       (ap (blockAt ws left) (omega arith)
-      ∙ block-tree left (suc l) (q + 2 ^ left) (set l true x) (omega arith) (next-whole q left whole) (omega arith) (λ i h.
+      ∙ block-tree left (suc l) (q + 2 ^ left) (withContact l true x) (omega arith) (next-whole q left whole) (omega arith) (λ i h.
       by-cases (ℕ-discrete i l) (λ e. at-own true i e ∙ sym (ap (inputOf (q + 2 ^ left)) (place i e) ∙ bit-closed q left whole))
       (λ ne. at-other true i ne ∙ same i (omega arith) ∙ sym (above-same q left whole (n - suc i) (omega arith)))))
     where
       place : (i : ℕ) → i ≡ l → n - suc i ≡ left
       place i e = omega arith
 
-      at-own : (b : Bool) (i : ℕ) → i ≡ l → set l b x i ≡ b
+      at-own : (b : Bool) (i : ℕ) → i ≡ l → withContact l b x i ≡ b
       at-own b i e = simp (eq-eqb i l e)
 
-      at-other : (b : Bool) (i : ℕ) → (i ≡ l → ⊥) → set l b x i ≡ x i
+      at-other : (b : Bool) (i : ℕ) → (i ≡ l → ⊥) → withContact l b x i ≡ x i
       at-other b i ne = simp (ne-eqb i l ne)
 
   pub block-is : blockAt ws n s ≡ tree n 0 v (λ _. false)

@@ -9,7 +9,7 @@ use lib.Dec.{eqb}
 use lib.ListN.{length, getD}
 use Rattle.diagram.specs.Diagram.{bit, Input}
 use Rattle.diagram.specs.Questions.{brought}
-use Rattle.functions.specs.Functions.{Function, constant, choice, half, set, tree, functionsOf, place, firsts, halfAt, levelOf}
+use Rattle.functions.specs.Functions.{Function, constant, choice, half, withContact, tree, functionsOf, place, firsts, halfAt, levelOf}
 use Rattle.functions.proofs.Firsts.{firsts-same, place-in, place-own, firsts-from, in-turn, all-brought}
 use Rattle.functions.proofs.Joined.{set-own}
 use Rattle.functions.proofs.Places.{place-is}
@@ -120,7 +120,7 @@ module _ (n m : ℕ) (v : ℕ → Input → ℕ) (values : (j : ℕ) → j < m �
   functions-full j h = tree-full n 0 (v j) (λ _. false) (values j h .bit)
 
   half-remains : (l left : ℕ) (g : Function) (b : Bool) → Remains m v l (suc left) g → Remains m v (suc l) left (half b g)
-  half-remains l left g b (j, h, x, e) = (j, h, set l b x, ap (half b) e ∙ half-tree b left l (v j) x)
+  half-remains l left g b (j, h, x, e) = (j, h, withContact l b x, ap (half b) e ∙ half-tree b left l (v j) x)
 
   mention-remains : (l left k : ℕ) → l + left ≡ n → k < mentionsOf (functionsOf n v) m l →
       Remains m v l left (mentionOf (functionsOf n v) m l k)

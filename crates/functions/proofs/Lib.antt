@@ -11,3 +11,4 @@ pub mod Canonical
 pub mod Pigeonhole
 pub mod Wide
 pub mod Back
+pub mod Applied

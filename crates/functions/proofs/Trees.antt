@@ -5,7 +5,7 @@ use mathlib.Core.Path.{_≡_, refl, sym, ap, ap₂, _∙_, fun-ext}
 use mathlib.Core.Bool.{Bool, true, false, cond}
 use Rattle.diagram.specs.Diagram.{Input, join}
 use Rattle.diagram.proofs.Inputs.{join-below, join-from}
-use Rattle.functions.specs.Functions.{Function, constant, choice, half, set, tree, functionsOf}
+use Rattle.functions.specs.Functions.{Function, constant, choice, half, withContact, tree, functionsOf}
 use Rattle.functions.proofs.Joined.{set-own, join-set, join-same}
 use Rattle.functions.proofs.Places.{sameDec}
 
@@ -29,10 +29,10 @@ pub record Values (n : ℕ) (w : Input → ℕ) : Type 0 where
 pub tree-full : (left l : ℕ) (w : Input → ℕ) (x : Input) → ((y : Input) → w y < 2) → Full left (tree left l w x)
 unfolding tree
 tree-full zero l w x bit = bit x
-tree-full (suc left) l w x bit = (tree-full left (suc l) w (set l false x) bit, tree-full left (suc l) w (set l true x) bit)
+tree-full (suc left) l w x bit = (tree-full left (suc l) w (withContact l false x) bit, tree-full left (suc l) w (withContact l true x) bit)
 
 pub half-tree : (b : Bool) (left l : ℕ) (w : Input → ℕ) (x : Input) →
-    half b (tree (suc left) l w x) ≡ tree left (suc l) w (set l b x)
+    half b (tree (suc left) l w x) ≡ tree left (suc l) w (withContact l b x)
 unfolding tree
 half-tree false left l w x = refl
 half-tree true left l w x = refl
@@ -56,7 +56,7 @@ module _ (n : ℕ) (w : Input → ℕ) (v : Values n w) where
   tree-value (suc left) l x y p =
       sym (value-half left (tree (suc left) l w x) y l (tree-full (suc left) l w x (v .bit)))
       ∙ ap (λ (f : Function). valueFrom f y (suc l)) (half-tree (y l) left l w x)
-      ∙ tree-value left (suc l) (set l (y l) x) y (omega arith)
+      ∙ tree-value left (suc l) (withContact l (y l) x) y (omega arith)
       ∙ ap w (join-set l (y l) x y ∙ ap (join l x) (set-own l y))
 
   pub whole-value : (x y : Input) → valueFrom (tree n 0 w x) y 0 ≡ w y
@@ -73,10 +73,10 @@ module _ (n : ℕ) (w w' : Input → ℕ) (v : Values n w) (v' : Values n w') wh
       ∙ same x
       ∙ v' .first (join l x' x) x' (λ i h. join-below l x' x i (omega arith)))
   tree-same (suc left) l x x' p same =
-      let each : (b : Bool) (y : Input) → w (join (suc l) (set l b x) y) ≡ w' (join (suc l) (set l b x') y) = λ b y.
-      ap w (join-set l b x y) ∙ same (set l b y) ∙ ap w' (sym (join-set l b x' y)) in
-      ap₂ choice (tree-same left (suc l) (set l false x) (set l false x') (omega arith) (each false))
-      (tree-same left (suc l) (set l true x) (set l true x') (omega arith) (each true))
+      let each : (b : Bool) (y : Input) → w (join (suc l) (withContact l b x) y) ≡ w' (join (suc l) (withContact l b x') y) = λ b y.
+      ap w (join-set l b x y) ∙ same (withContact l b y) ∙ ap w' (sym (join-set l b x' y)) in
+      ap₂ choice (tree-same left (suc l) (withContact l false x) (withContact l false x') (omega arith) (each false))
+      (tree-same left (suc l) (withContact l true x) (withContact l true x') (omega arith) (each true))
 
   -- Trees that differ do so at some input.
   pub tree-apart : (left l : ℕ) (x x' : Input) → l + left ≡ n → (tree left l w x ≡ tree left l w' x' → ⊥) →
@@ -90,19 +90,19 @@ module _ (n : ℕ) (w w' : Input → ℕ) (v : Values n w) (v' : Values n w') wh
         ∙ v' .first (join l x' x) (join l x' y) (λ i h. join-below l x' x i (omega arith) ∙ sym (join-below l x' y i (omega arith))))),
   )
   tree-apart (suc left) l x x' p ne =
-      go (sameDec (part w x false) (part w' x' false)) (λ b. tree-apart left (suc l) (set l b x) (set l b x') (omega arith))
+      go (sameDec (part w x false) (part w' x' false)) (λ b. tree-apart left (suc l) (withContact l b x) (withContact l b x') (omega arith))
     where
       part : (Input → ℕ) → Input → Bool → Function
-      part u z b = tree left (suc l) u (set l b z)
+      part u z b = tree left (suc l) u (withContact l b z)
 
       Apart : Type 0
       Apart = (y : Input) × (w (join l x y) ≡ w' (join l x' y) → ⊥)
 
-      there : (b : Bool) → (y : Input) × (w (join (suc l) (set l b x) y) ≡ w' (join (suc l) (set l b x') y) → ⊥) → Apart
-      there b (y, told) = (set l b y, λ e. told (ap w (join-set l b x y) ∙ e ∙ ap w' (sym (join-set l b x' y))))
+      there : (b : Bool) → (y : Input) × (w (join (suc l) (withContact l b x) y) ≡ w' (join (suc l) (withContact l b x') y) → ⊥) → Apart
+      there b (y, told) = (withContact l b y, λ e. told (ap w (join-set l b x y) ∙ e ∙ ap w' (sym (join-set l b x' y))))
 
       go : Dec (part w x false ≡ part w' x' false) → ((b : Bool) → (part w x b ≡ part w' x' b → ⊥) →
-          (y : Input) × (w (join (suc l) (set l b x) y) ≡ w' (join (suc l) (set l b x') y) → ⊥)) → Apart
+          (y : Input) × (w (join (suc l) (withContact l b x) y) ≡ w' (join (suc l) (withContact l b x') y) → ⊥)) → Apart
       go (no other) rest = there false (rest false other)
       go (yes e) rest = there true (rest true (λ e'. ne (ap₂ choice e e')))
 

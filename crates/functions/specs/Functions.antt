@@ -29,13 +29,13 @@ same (choice f g) (constant w) = false
 same (choice f g) (choice h k) = same f h && same g k
 
 -- An input with contact l set.
-abbrev pub set : ℕ → Bool → Input → Input
-set l b x i = cond (eqb i l) b (x i)
+abbrev pub withContact : ℕ → Bool → Input → Input
+withContact l b x i = cond (eqb i l) b (x i)
 
 -- The tree of the values v over so many contacts from l on, the others as in x.
 unfoldable pub tree : ℕ → ℕ → (Input → ℕ) → Input → Function
 tree zero l v x = constant (v x)
-tree (suc left) l v x = choice (tree left (suc l) v (set l false x)) (tree left (suc l) v (set l true x))
+tree (suc left) l v x = choice (tree left (suc l) v (withContact l false x)) (tree left (suc l) v (withContact l true x))
 
 -- The functions of so many contacts that the outputs have, given output j's value at each input.
 abbrev pub functionsOf : ℕ → (ℕ → Input → ℕ) → ℕ → Function
