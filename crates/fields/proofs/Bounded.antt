@@ -61,6 +61,11 @@ module _ (p : ℕ → Bool) where
       (λ m. ap (λ (b : Bool). b || p n) (any-at n i m e))
       (eq-or-lt-of-le (le-of-suc-le-suc l))
 
+  pub any-not : (n : ℕ) → ((i : ℕ) → i < n → p i ≡ false) → any n p ≡ false
+  unfolding any
+  any-not zero h = refl
+  any-not (suc n) h = ap₂ _||_ (any-not n (λ i l. h i (omega arith))) (h n (omega arith))
+
   pub any-found : (n : ℕ) → any n p ≡ true → (i : ℕ) × (i < n) × (p i ≡ true)
   unfolding any
   any-found zero e = absurd (let z : _≡_ {A = ℕ} 0 1 = cc in omega arith)

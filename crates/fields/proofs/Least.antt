@@ -1,8 +1,9 @@
--- The least number that passes: where some number does, it is the first that does, and only the first is the least.
+-- The least number that passes: where some number does, it is the first that does, and only the first is the least; where none does,
+-- it is the bound.
 use Prim.Native.Nat.{ℕ, zero, suc, _+_, _≤_, _<_}
-use native.Mathlib.Nat.{eq-or-lt-of-le, lt-of-not-le}
+use native.Mathlib.Nat.{eq-or-lt-of-le, lt-of-not-le, zero-add, add-zero}
 use native.Mathlib.Omega.{arith}
-use mathlib.Core.Path.{_≡_, refl, sym, ap}
+use mathlib.Core.Path.{_≡_, refl, sym, ap, _∙_}
 use mathlib.Core.Bool.{Bool, true, false, _||_}
 use mathlib.Core.Logic.{⊎-elim}
 use Rattle.fields.specs.Bounded.{any, leastFrom, least}
@@ -31,7 +32,17 @@ module _ (p : ℕ → Bool) where
   pub least-is : {k r : ℕ} → First p k r → r ≡ least k p
   least-is {k} {r} f = from-is k 0 r (omega arith) (omega arith) (f .passes) (f .none)
 
-  none-below : (k : ℕ) → any k p ≡ false → (j : ℕ) → j < k → p j ≡ false
+  from-none : (count i : ℕ) → ((j : ℕ) → j < i + count → p j ≡ false) → i + count ≡ leastFrom count p i
+  unfolding leastFrom
+  from-none zero i none = add-zero i
+  from-none (suc count) i none =
+      let shift : i + suc count ≡ suc i + count = omega arith in
+      rw (none i (omega arith), leastFrom) (shift ∙ from-none count (suc i) (λ j l. none j (omega arith)))
+
+  pub least-none : {k : ℕ} → ((j : ℕ) → j < k → p j ≡ false) → k ≡ least k p
+  least-none {k} none = sym (zero-add k) ∙ from-none k 0 (λ j l. none j (omega arith))
+
+  pub none-below : (k : ℕ) → any k p ≡ false → (j : ℕ) → j < k → p j ≡ false
   none-below k e j l = go (p j) refl
     where
       go : (b : Bool) → p j ≡ b → b ≡ false
@@ -65,3 +76,18 @@ module _ (p : ℕ → Bool) where
   least-first k e =
       let (r, f) = first k e in
       rw (← least-is f) f
+
+  -- A least number below k is the first that passes; one that is not says that none does.
+  pub least-below : {k r : ℕ} → r ≡ least k p → r < k → First p k r
+  least-below {k} {r} e l = go (any k p) refl
+    where
+      go : (b : Bool) → any k p ≡ b → First p k r
+      go true ea = rw e (least-first k ea)
+      go false ea = absurd (let z = least-none (none-below k ea) in omega arith)
+
+  pub least-past : {k r : ℕ} → r ≡ least k p → k ≤ r → any k p ≡ false
+  least-past {k} {r} e l = go (any k p) refl
+    where
+      go : (b : Bool) → any k p ≡ b → b ≡ false
+      go true ea = absurd (let f = least-first k ea .below in omega arith)
+      go false ea = refl
