@@ -3,6 +3,7 @@
 //
 //     f NAME: FILE                                              the fields of a file
 //     t NAME: TABLE                                             a table, and what is read off
+//     a NAME: TABLE                                             the first two alike nodes of a table, and the pairs compared
 //     i NAME: TABLE / INPUT                                     what is read off at one input
 //     d NAME: DRAWING / ROOM                                    a drawing's table in a buffer of so many bytes
 //     w NAME: COUNT / ROOM                                      the same, of a drawing of so many nodes
@@ -62,6 +63,7 @@ fn show(kind: u8, case: &[u8]) {
     match kind {
         b'f' => rows::show(file),
         b't' => tables::show(file),
+        b'a' => tables::show_twins(file),
         b'i' => tables::show_at(file, case),
         b'd' => drawings::show(file, case),
         b'w' => drawings::show_row(case),

@@ -1,4 +1,4 @@
--- Questions 5 to 7 as the code asks them, over the arrays of a diagram.
+-- Questions 5 and 7 as the code asks them, over the arrays of a diagram.
 use Prim.Native.Nat.{ℕ, zero, suc, _+_, _*_, _-_, _≤_, _<_}
 use native.Mathlib.Nat.{zero-add}
 use native.Mathlib.Numerals.{add-one}
@@ -12,12 +12,11 @@ use lib.ListN.{length, getD}
 use Rattle.fields.specs.Bounded.{all}
 use Rattle.diagram.specs.declared.Diagram.{Diagram}
 use Rattle.diagram.specs.declared.sound.Range.the-variants.{Within, Outside}
-use Rattle.diagram.specs.declared.sound.Twins.the-variants.{Absent, Present}
 use Rattle.diagram.specs.declared.sound.Numbering.the-variants.{InTurn, OutOfTurn}
-use Rattle.diagram.specs.Inner.Bytes.{isBelow, isInTurn, isUnlike}
+use Rattle.diagram.specs.Inner.Bytes.{isBelow, isInTurn}
 use Rattle.diagram.specs.Diagram.{width, edgeAt, root}
 use Rattle.diagram.specs.Inner.Lent.{Fit, HasLevels, HasOutputs}
-use Rattle.diagram.specs.Questions.{Sized, inRange, distinct, mention, mentions, inTurn, numbered, rangeOf, twinsOf, numberingOf}
+use Rattle.diagram.specs.Questions.{Sized, inRange, mention, mentions, inTurn, numbered, rangeOf, numberingOf}
 
 all-agree : (n : ℕ) (p q : ℕ → Bool) → ((i : ℕ) → i < n → p i ≡ q i) → all n p ≡ all n q
 unfolding all
@@ -31,20 +30,6 @@ width-is d l h = simp (lt-ltb _ _ h)
 -- The arrays of a diagram within the limits can be lent.
 pub fit : (d : Diagram) → Sized d → length (d .widths) ≡ 12 → length (d .edges) ≡ 192 → Fit (d .contacts) (d .widths) (d .edges)
 fit d s w e = record { contacts = s .contacts; widths = w; edges = e; nodes = λ l h. rw (width-is d l h) (s .widths l h .1) }
-
--- Question 6 of one level.
-abbrev pub unlikeAt : List ℕ → List ℕ → ℕ → Bool
-unlikeAt widths edges l = all (getD widths l 0) (λ v. all v (isUnlike edges (l * 16) v))
-
-distinct-is : (d : Diagram) → all (d .contacts) (unlikeAt (d .widths) (d .edges)) ≡ distinct d
-unfolding distinct edgeAt
-distinct-is d = all-agree (d .contacts) _ _ (λ l h. ap (λ (w : ℕ). all w (λ v. all v (isUnlike (d .edges) (l * 16) v))) (width-is d l h))
-
-pub twins-by : {n : ℕ} {ws es : List ℕ} (d : Diagram) → HasLevels d n ws es → (b : Bool) → b ≡ all n (unlikeAt ws es) →
-    cond b Absent Present ≡ twinsOf d
-twins-by d h b e =
-    let f : b ≡ all (d .contacts) (unlikeAt (d .widths) (d .edges)) = rw (h .contacts, h .widths, h .edges) e in
-    ap (λ (t : Bool). cond t Absent Present) (f ∙ distinct-is d)
 
 -- Question 5 of the output list, and of the edges of one level.
 abbrev pub widthIn : List ℕ → ℕ → ℕ → ℕ

@@ -7,4 +7,8 @@ pub mod Words
 pub mod Loops
 pub mod Turns
 pub mod Asked
+pub mod Totals
+pub mod Pairs
+pub mod Applied
+pub mod Promises
 pub mod Ignored

@@ -1,3 +1,5 @@
 pub mod Diagram
 pub mod Questions
+pub mod Twins
+pub mod Promises
 pub mod Inner

@@ -8,8 +8,6 @@ use Rattle.fields.specs.Bounded.{all}
 use Rattle.diagram.specs.declared.Diagram.{Diagram}
 use Rattle.diagram.specs.declared.sound.Range.{Range}
 use Rattle.diagram.specs.declared.sound.Range.the-variants.{Within, Outside}
-use Rattle.diagram.specs.declared.sound.Twins.{Twins}
-use Rattle.diagram.specs.declared.sound.Twins.the-variants.{Absent, Present}
 use Rattle.diagram.specs.declared.sound.Numbering.{Numbering}
 use Rattle.diagram.specs.declared.sound.Numbering.the-variants.{InTurn, OutOfTurn}
 use Rattle.diagram.specs.Diagram.{width, edgeAt, edge, root}
@@ -63,12 +61,9 @@ inTurn f k w = all k (λ i. leb (f i) (brought f i)) && eqb (brought f k) w
 unfoldable pub numbered : Diagram → Bool
 numbered d = all (d .contacts) (λ l. inTurn (mention d l) (mentions d l) (width d l))
 
--- The answer to each.
+-- The answers to 5 and 7; that to 6 says which nodes are alike (specs/Twins.antt).
 abbrev pub rangeOf : Diagram → Range
 rangeOf d = cond (inRange d) Within Outside
-
-abbrev pub twinsOf : Diagram → Twins
-twinsOf d = cond (distinct d) Absent Present
 
 abbrev pub numberingOf : Diagram → Numbering
 numberingOf d = cond (numbered d) InTurn OutOfTurn

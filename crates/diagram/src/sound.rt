@@ -1,24 +1,18 @@
-// Questions 5 to 7, about a diagram whose arrays are lent.
+// Questions 5 and 7, about a diagram whose arrays are lent.
 ghost use mathlib.Core.Path.{_≡_};
 ghost use mathlib.Core.Bool.{cond};
 ghost use Prim.Native.Nat.{_+_, _*_, _≤_, _<_};
 ghost use lib.Dec.{ltb};
 ghost use lib.ListN.{length, getD};
 ghost use Rattle.fields.specs.Bounded.{all};
-ghost use Rattle.diagram.specs.Inner.Bytes.{isBelow, isInTurn, isUnlike};
-ghost use Rattle.diagram.specs.Questions.{rangeOf, twinsOf, numberingOf};
-ghost use Rattle.diagram.specs.Inner.Lent.{Fit, WithLevels, WithArrays};
+ghost use Rattle.diagram.specs.Inner.Bytes.{isBelow, isInTurn};
+ghost use Rattle.diagram.specs.Questions.{rangeOf, numberingOf};
+ghost use Rattle.diagram.specs.Inner.Lent.{Fit, WithArrays};
 
 // Question 5's answer.
 pub enum Range {
     Within,
     Outside,
-}
-
-// Question 6's answer: where two nodes of one level are alike.
-pub enum Twins {
-    Absent,
-    Present,
 }
 
 // Question 7's answer.
@@ -68,49 +62,6 @@ pub fn ask_range<'a>(
         }
     }
     Range::Within
-}
-
-// Whether a node's edges, two bytes at v, are those of none of the nodes before it, whose edges stand from a place on.
-fn unlike(edges: &[u8], from: usize, v: usize) -> bool
-    requires { ⌜ from + 2 * v + 1 < length (now edges) ⌝ }
-    ensures { λ r. ⌜ r ≡ all v (isUnlike (now (edges .entry)) from v) ⌝ }
-{
-    let zero = edges[from + 2 * v];
-    let one = edges[from + (2 * v + 1)];
-    for u in 0..v {
-        if edges[from + 2 * u] == zero {
-            if edges[from + (2 * u + 1)] == one {
-                return false;
-            }
-        }
-    }
-    true
-}
-
-// Whether no two of so many nodes, whose edges stand from a place on, are alike.
-fn all_unlike(edges: &[u8], from: usize, nodes: usize) -> bool
-    requires { ⌜ from + 2 * nodes ≤ length (now edges) ⌝ }
-    ensures { λ r. ⌜ r ≡ all nodes (λ v. all v (isUnlike (now (edges .entry)) from v)) ⌝ }
-{
-    for v in 0..nodes {
-        if !unlike(edges, from, v) {
-            return false;
-        }
-    }
-    true
-}
-
-// Question 6: does each pair of nodes of one level differ in an edge?
-pub fn ask_twins<'a>(n: usize, widths: &'a [usize], edges: &'a [u8]) -> Twins
-    requires { ⌜ Fit n (now widths) (now edges) ⌝ }
-    ensures { λ r. ⌜ WithLevels n (now (widths .entry)) (now (edges .entry)) (λ d. r ≡ twinsOf d) ⌝ }
-{
-    for l in 0..n {
-        if !all_unlike(edges, l * 16, widths[l]) {
-            return Twins::Present;
-        }
-    }
-    Twins::Absent
 }
 
 // Whether so many bytes from a place on each mention a node mentioned before or the next number, and mention so many nodes.

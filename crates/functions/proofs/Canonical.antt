@@ -10,9 +10,10 @@ use lib.ListN.{length}
 use Rattle.fields.specs.Refusals.{firstNo}
 use Rattle.diagram.specs.declared.Diagram.{Diagram}
 use Rattle.diagram.specs.declared.sound.Range.the-variants.{Within, Outside}
-use Rattle.diagram.specs.declared.sound.Twins.the-variants.{Absent, Present}
 use Rattle.diagram.specs.declared.sound.Numbering.the-variants.{InTurn, OutOfTurn}
+use Rattle.diagram.specs.declared.twins.Twins.the-variants.{Absent, Present}
 use Rattle.diagram.specs.Diagram.{width, Input, path, valueAt}
+use Rattle.diagram.specs.Twins.{firstPair}
 use Rattle.diagram.proofs.Unique.{Reduced}
 use Rattle.table.specs.Encode.{bytesOf}
 use Rattle.table.specs.Promises.{Accepted}
@@ -31,7 +32,7 @@ passes : (d : Diagram) → Reduced d → diagramRefusal d ≡ 0
 unfolding firstNo
 passes d r =
     sym (diagram-by d Within Absent InTurn (ap (λ (b : Bool). cond b Within Outside) (r .ranged))
-    (ap (λ (b : Bool). cond b Absent Present) (r .differing)) (ap (λ (b : Bool). cond b InTurn OutOfTurn) (r .counted)))
+    (ap (λ (b : Bool). cond b Absent (Present (firstPair d))) (r .differing)) (ap (λ (b : Bool). cond b InTurn OutOfTurn) (r .counted)))
 
 module _ (n m : ℕ) (f : ℕ → Function) (s : Limits (canonical n m f)) (full : (j : ℕ) → j < m → Full n (f j)) where
   -- The path from a function's node leads to its value.

@@ -4,6 +4,7 @@ use native.Mathlib.Omega.{arith}
 use mathlib.Core.Path.{_≡_, refl}
 use mathlib.Core.List.{List}
 use Rattle.diagram.specs.declared.Diagram.{Diagram}
+use Rattle.diagram.proofs.Promises.{first-twins, no-twins, pairs-counted, all-pairs}
 use lib.ListN.{length}
 use Rattle.files.proofs.Writing.{refused-writing}
 use Rattle.table.specs.Table.{diagramIn, tableRefusal, readRefusal, readingOr, readingOf}
@@ -91,4 +92,5 @@ demands =
             seventeen = seventeen-if-wide;
             back = table-given-back;
           };
+      twins = record { first = first-twins; none = no-twins; counted = pairs-counted; all = all-pairs };
     }

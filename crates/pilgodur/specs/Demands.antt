@@ -6,6 +6,7 @@
 use Prim.Native.Nat.{ℕ, suc}
 use mathlib.Core.Path.{_≡_}
 use mathlib.Core.List.{List}
+use Rattle.diagram.specs.Promises.{FirstTwins, NoTwins, PairsCounted, AllPairs}
 use Rattle.table.specs.Table.{readingOf}
 use Rattle.simulation.specs.Service.{runOf}
 use Rattle.sheet.specs.Service.{sheetingOf}
@@ -76,6 +77,14 @@ pub record Drawings : Type 0 where
   pub seventeen : SeventeenIfWide
   pub back : TableGivenBack
 
+-- Question 6. The search hands back the first pair of alike nodes, by level, then by the later node, then by the earlier; none exactly
+-- if no level has two; so many pairs are compared as there are up to that one, or all, which are w (w - 1) / 2 in a level of w nodes.
+pub record AlikeNodes : Type 0 where
+  pub first : FirstTwins
+  pub none : NoTwins
+  pub counted : PairsCounted
+  pub all : AllPairs
+
 pub record Demands : Type 0 where
   pub first : Refusals
   pub second : Netlists
@@ -83,3 +92,4 @@ pub record Demands : Type 0 where
   pub spare : SpareLines
   pub sheets : Sheets
   pub drawings : Drawings
+  pub twins : AlikeNodes

@@ -14,9 +14,10 @@ use Rattle.files.specs.Header.{contactsIn}
 use Rattle.diagram.specs.declared.Diagram.{Diagram}
 use Rattle.table.specs.declared.fit.Outputs.the-variants.{Listed}
 use Rattle.diagram.specs.declared.sound.Range.the-variants.{Within, Outside}
-use Rattle.diagram.specs.declared.sound.Twins.the-variants.{Absent, Present}
 use Rattle.diagram.specs.declared.sound.Numbering.the-variants.{InTurn, OutOfTurn}
+use Rattle.diagram.specs.declared.twins.Twins.the-variants.{Absent, Present}
 use Rattle.diagram.specs.Questions.{Sized, inRange, distinct, numbered}
+use Rattle.diagram.specs.Twins.{firstPair}
 use Rattle.diagram.proofs.Unique.{Reduced}
 use Rattle.table.specs.Table.{outputsIn, areLevels, diagramIn, rangeNumber, twinsNumber, numberingNumber, fieldsRefusal, diagramRefusal, tableRefusal}
 use Rattle.table.proofs.Shaped.{shaped, sized}
@@ -36,7 +37,8 @@ reduced d z = go (inRange d) (distinct d) (numbered d) refl refl refl z
   where
     go : (a b c : Bool) → inRange d ≡ a → distinct d ≡ b → numbered d ≡ c →
         firstNo
-        (rangeNumber (cond a Within Outside) ∷ twinsNumber (cond b Absent Present) ∷ numberingNumber (cond c InTurn OutOfTurn) ∷ [])
+        (rangeNumber (cond a Within Outside) ∷ twinsNumber (cond b Absent (Present (firstPair d)))
+        ∷ numberingNumber (cond c InTurn OutOfTurn) ∷ [])
         ≡ 0 → Reduced d
     go false b c p q r z = absurd (omega arith)
     go true false c p q r z = absurd (omega arith)

@@ -1,4 +1,5 @@
--- What reading a table gives, by the refusals of its fields and of its diagram, and what a reading off gives.
+-- What reading a table gives, by the refusals of its fields and of its diagram, what question 6's search hands back, and what a reading
+-- off gives.
 use Prim.Native.Nat.{ℕ, zero, suc, _^_, _≤_, _<_}
 use mathlib.Core.Path.{_≡_, refl, sym, ap, ap₂, _∙_}
 use mathlib.Core.List.{List, [], _∷_}
@@ -9,9 +10,11 @@ use Rattle.table.specs.declared.reading.Table.{Table}
 use Rattle.fields.specs.Refusals.{firstNo}
 use Rattle.fields.proofs.Refusals.{first-no}
 use Rattle.diagram.specs.declared.Diagram.{Diagram}
+use Rattle.diagram.specs.declared.twins.Twins.the-variants.{Absent}
 use Rattle.diagram.specs.Diagram.{inputOf, wordAt}
+use Rattle.diagram.specs.Twins.{comparisonOf}
 use Rattle.table.specs.Table.{diagramIn, fieldsRefusal, diagramRefusal, tableRefusal, readRefusal, readingOr, readingOf}
-use Rattle.table.specs.Inner.Read.{refusedTable, tableOr, tableOf}
+use Rattle.table.specs.Inner.Read.{refusedTable, tableOr, tableOf, comparisonOr, comparisonIn}
 use Rattle.table.proofs.Accepted.{AcceptedTable, accepted}
 
 table-or : (k : ℕ) (d : Diagram) → (k ≡ 0 → ⊥) → refusedTable k ≡ tableOr k d
@@ -25,6 +28,10 @@ refusal-or (suc k) d = refl
 reading-or : (k : ℕ) (d : Diagram) (a : ℕ) → (k ≡ 0 → ⊥) → record { refusal = k; word = 0 } ≡ readingOr k d a
 reading-or zero d a h = absurd (h refl)
 reading-or (suc k) d a h = refl
+
+comparison-or : (k : ℕ) (d : Diagram) → (k ≡ 0 → ⊥) → record { twins = Absent; compared = 0 } ≡ comparisonOr k d
+comparison-or zero d h = absurd (h refl)
+comparison-or (suc k) d h = refl
 
 module _ (file : List ℕ) where
   refusal-by : (j k : ℕ) → j ≡ fieldsRefusal file → k ≡ diagramRefusal (diagramIn file) → firstNo (j ∷ k ∷ []) ≡ tableRefusal file
@@ -45,6 +52,14 @@ module _ (file : List ℕ) where
   pub table-by-none : 0 ≡ fieldsRefusal file → 0 ≡ diagramRefusal (diagramIn file) → tableOr 0 (diagramIn file) ≡ tableOf file
   unfolding tableOf firstNo
   table-by-none z e = ap (λ (n : ℕ). tableOr n (diagramIn file)) (refusal-by 0 0 z e)
+
+  pub comparison-none : {k : ℕ} → k ≡ fieldsRefusal file → (k ≡ 0 → ⊥) → record { twins = Absent; compared = 0 } ≡ comparisonIn file
+  unfolding comparisonIn
+  comparison-none {k} e h = comparison-or k (diagramIn file) h ∙ ap (λ (n : ℕ). comparisonOr n (diagramIn file)) e
+
+  pub comparison-made : fieldsRefusal file ≡ 0 → comparisonOf (diagramIn file) ≡ comparisonIn file
+  unfolding comparisonIn
+  comparison-made z = rw z
 
   pub table-refusal : tableOf file .refusal ≡ tableRefusal file
   unfolding tableOf

@@ -14,13 +14,14 @@ use Rattle.table.specs.declared.fit.Levels.{Levels}
 use Rattle.table.specs.declared.fit.Levels.the-variants.{Given, Lacking}
 use Rattle.diagram.specs.declared.sound.Range.{Range}
 use Rattle.diagram.specs.declared.sound.Range.the-variants.{Within, Outside}
-use Rattle.diagram.specs.declared.sound.Twins.{Twins}
-use Rattle.diagram.specs.declared.sound.Twins.the-variants.{Absent, Present}
 use Rattle.diagram.specs.declared.sound.Numbering.{Numbering}
 use Rattle.diagram.specs.declared.sound.Numbering.the-variants.{InTurn, OutOfTurn}
+use Rattle.diagram.specs.declared.twins.Twins.{Twins}
+use Rattle.diagram.specs.declared.twins.Twins.the-variants.{Absent, Present}
 use Rattle.table.specs.declared.reading.Reading.{Reading}
 use Rattle.diagram.specs.Diagram.{inputOf, wordAt}
-use Rattle.diagram.specs.Questions.{rangeOf, twinsOf, numberingOf}
+use Rattle.diagram.specs.Questions.{rangeOf, numberingOf}
+use Rattle.diagram.specs.Twins.{twinsOf}
 
 -- The number of each answer: 0 for yes, and the question's for no.
 abbrev pub outputsNumber : Outputs → ℕ
@@ -37,7 +38,7 @@ rangeNumber Outside = 5
 
 abbrev pub twinsNumber : Twins → ℕ
 twinsNumber Absent = 0
-twinsNumber Present = 6
+twinsNumber (Present p) = 6
 
 abbrev pub numberingNumber : Numbering → ℕ
 numberingNumber InTurn = 0

@@ -7,5 +7,6 @@ pub use fit::Levels;
 pub use fit::Outputs;
 pub use reading::Reading;
 pub use reading::Table;
+pub use reading::find_twins;
 pub use reading::read;
 pub use reading::read_off;

@@ -3,6 +3,7 @@ use crate::decode;
 use crate::fit;
 use crate::fit::Levels;
 use crate::fit::Outputs;
+use diagram::Comparison;
 use diagram::Diagram;
 use diagram::Numbering;
 use diagram::Range;
@@ -14,7 +15,7 @@ ghost use Prim.Native.Nat.{_≤_};
 ghost use lib.ListN.{length};
 ghost use Rattle.diagram.specs.Inner.Lent.{Fit, WithArrays};
 ghost use Rattle.table.specs.Table.{fieldsRefusal, diagramRefusal, readingOf};
-ghost use Rattle.table.specs.Inner.Read.{refusedTable, tableOf};
+ghost use Rattle.table.specs.Inner.Read.{refusedTable, tableOf, comparisonIn};
 
 // A table's diagram, or the number of the first question that it fails and nothing else.
 pub struct Table {
@@ -62,7 +63,9 @@ fn asked_of_diagram<'a>(
     let Range::Within = diagram::ask_range(n, widths, edges, m, roots) else {
         return 5;
     };
-    let Twins::Absent = diagram::ask_twins(n, widths, edges) else {
+    let found = diagram::find_twins(n, widths, edges);
+    let twins = found.twins;
+    let Twins::Absent = twins else {
         return 6;
     };
     let Numbering::InTurn = diagram::ask_numbering(n, widths, edges, m, roots) else {
@@ -115,6 +118,23 @@ pub fn read(file: &[u8]) -> Table
             edges: edges,
         },
     }
+}
+
+// What question 6's search hands back; nothing is compared in a file that questions 1 to 4 refuse.
+pub fn find_twins(file: &[u8]) -> Comparison
+    ensures { λ r. ⌜ r ≡ comparisonIn (now (file .entry)) ⌝ }
+{
+    if asked_of_fields(file) != 0 {
+        return Comparison {
+            twins: Twins::Absent,
+            compared: 0,
+        };
+    }
+    let mut widths = [0usize; 12];
+    let mut edges = [0u8; 192];
+    let n = decode::contacts(file);
+    decode::lay_levels(file, &mut widths, &mut edges);
+    diagram::find_twins(n, &widths, &edges)
 }
 
 // The word of a table at input a: question 10 after the table's own.

@@ -1,5 +1,6 @@
 // The number that a table's file gets, what its diagram is where it is accepted, and what is read off at the first inputs.
 use diagram::Diagram;
+use diagram::Twins;
 use text::print;
 use text::spelling;
 
@@ -46,4 +47,34 @@ pub fn show_at(file: &[u8], case: &[u8]) {
         reading.word as usize,
         0,
     );
+}
+
+// The number that a table's file gets and, where question 6 is asked, the first two alike nodes of one level and how many pairs are
+// compared to find them.
+pub fn show_twins(file: &[u8]) {
+    let table = table::read(file);
+    let refusal = table.refusal;
+    print::form(b": %", refusal as usize, 0, 0);
+    if refusal == 0 || 5 < refusal {
+        let found = table::find_twins(file);
+        let twins = found.twins;
+        show_pair(twins);
+        print::form(b", compared %", found.compared, 0, 0);
+    }
+}
+
+fn show_pair(twins: Twins) {
+    match twins {
+        Twins::Absent => {
+            print::text(b", no two alike");
+        }
+        Twins::Present(pair) => {
+            print::form(
+                b", in level % nodes % and %",
+                pair.level,
+                pair.earlier,
+                pair.later,
+            );
+        }
+    }
 }

@@ -19,10 +19,9 @@ isInTurn bytes from count w = inTurn (λ k. getD bytes (from + k) 0) count w
 abbrev pub edgeIn : List ℕ → ℕ → ℕ → Bool → ℕ
 edgeIn bytes from u b = getD bytes (from + (2 * u + bit b)) 0
 
--- Whether nodes u and v differ in an edge.
-abbrev pub isUnlike : List ℕ → ℕ → ℕ → ℕ → Bool
-isUnlike bytes from v u =
-    not (eqb (edgeIn bytes from u false) (edgeIn bytes from v false) && eqb (edgeIn bytes from u true) (edgeIn bytes from v true))
+-- Whether node u has the edges of node v.
+abbrev pub isLike : List ℕ → ℕ → ℕ → ℕ → Bool
+isLike bytes from v u = eqb (edgeIn bytes from u false) (edgeIn bytes from v false) && eqb (edgeIn bytes from u true) (edgeIn bytes from v true)
 
 -- Whether node u's edges differ.
 abbrev pub isFork : List ℕ → ℕ → ℕ → Bool

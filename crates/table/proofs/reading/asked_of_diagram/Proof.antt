@@ -1,13 +1,18 @@
 -- `reading::asked_of_diagram` meets its contract: each return is the number that the answers before it make first.
 use borrow.Author.Needs.{needs}
-use mathlib.Core.Path.{refl, sym, _∙_}
+use mathlib.Core.Path.{refl, sym, ap, _∙_}
 use Rattle.fields.specs.Refusals.{firstNo}
 use Rattle.diagram.specs.declared.sound.Range.the-variants.{Within, Outside}
-use Rattle.diagram.specs.declared.sound.Twins.the-variants.{Absent, Present}
 use Rattle.diagram.specs.declared.sound.Numbering.the-variants.{InTurn, OutOfTurn}
+use Rattle.diagram.specs.declared.twins.Twins.{Twins}
+use Rattle.diagram.specs.declared.twins.Twins.the-variants.{Absent, Present}
+use Rattle.diagram.specs.declared.twins.Comparison.{Comparison}
 use Rattle.table.proofs.Refusals.{diagram-by}
 use Rattle.table.proofs.reading.asked_of_diagram.Statement.{statement}
 use Rattle.table.proofs.reading.asked_of_diagram.Tie as tie
+
+abbrev twinsIn : Comparison → Twins
+twinsIn c = c .twins
 
 ask-range-requires : tie.Need-ask-range-requires
 ask-range-requires c κs = c .before .before .before .pre
@@ -24,8 +29,8 @@ returns c d h g =
     let range = sym (c .before .before .ask-range .ensures d h g) ∙ c .enum-told2 .given .1 in
     diagram-by d Outside _ _ range refl refl
 
-ask-twins-requires : tie.Need-ask-twins-requires
-ask-twins-requires c κs = c .before .before .before .before .before .before .pre .0
+find-twins-requires : tie.Need-find-twins-requires
+find-twins-requires c κs = c .before .before .before .before .before .before .pre .0
 
 enum-told-3 : tie.Need-enum-told-3
 enum-told-3 c = search needs
@@ -37,8 +42,8 @@ returns-2 : tie.Need-returns-2
 unfolding firstNo
 returns-2 c d h g =
     let range = sym (c .before .before .before .before .before .ask-range .ensures d h g) ∙ c .before .before .before .enum-told .given .1 in
-    let twins = sym (c .before .before .ask-twins .ensures d h) ∙ c .enum-told4 .given .1 in
-    diagram-by d Within Present _ range twins refl
+    let twins = ap twinsIn (sym (c .before .before .find-twins .ensures d h)) ∙ c .enum-told4 .given .1 in
+    diagram-by d Within (Present _) _ range twins refl
 
 ask-numbering-requires : tie.Need-ask-numbering-requires
 ask-numbering-requires c κs = c .before .before .before .before .before .before .before .before .before .pre
@@ -53,7 +58,7 @@ returns-3 : tie.Need-returns-3
 unfolding firstNo
 returns-3 c d h g =
     let range = sym (c .before .before .before .before .before .before .before .before .ask-range .ensures d h g) ∙ c .before .before .before .before .before .before .enum-told .given .1 in
-    let twins = sym (c .before .before .before .before .before .ask-twins .ensures d h) ∙ c .before .before .before .enum-told3 .given .1 in
+    let twins = ap twinsIn (sym (c .before .before .before .before .before .find-twins .ensures d h)) ∙ c .before .before .before .enum-told3 .given .1 in
     let numbering = sym (c .before .before .ask-numbering .ensures d h g) ∙ c .enum-told6 .given .1 in
     diagram-by d Within Absent OutOfTurn range twins numbering
 
@@ -61,7 +66,7 @@ returns-4 : tie.Need-returns-4
 unfolding firstNo
 returns-4 c d h g =
     let range = sym (c .before .before .before .before .before .before .before .before .ask-range .ensures d h g) ∙ c .before .before .before .before .before .before .enum-told .given .1 in
-    let twins = sym (c .before .before .before .before .before .ask-twins .ensures d h) ∙ c .before .before .before .enum-told3 .given .1 in
+    let twins = ap twinsIn (sym (c .before .before .before .before .before .find-twins .ensures d h)) ∙ c .before .before .before .enum-told3 .given .1 in
     let numbering = sym (c .before .before .ask-numbering .ensures d h g) ∙ c .enum-told5 .given .1 in
     diagram-by d Within Absent InTurn range twins numbering
 
@@ -73,7 +78,7 @@ asked-of-diagram-spec =
     enum-told
     enum-told-2
     returns
-    ask-twins-requires
+    find-twins-requires
     enum-told-3
     enum-told-4
     returns-2

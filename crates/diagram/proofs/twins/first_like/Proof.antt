@@ -1,35 +1,34 @@
--- `sound::unlike` meets its contract. The loop's invariant: the nodes passed differ from node v in an edge.
+-- `twins::first_like` meets its contract. The loop's invariant: the nodes passed differ from node v in an edge.
 use borrow.Author.Needs.{needs}
 use borrow.Author.Tests.{eq-eqb, ne-eqb}
 use native.Mathlib.Omega.{arith}
-use native.Mathlib.Nat.{add-zero as plus-zero}
-use Prim.Native.Nat.{ℕ, _+_, _*_, _-_, _≤_}
+use native.Mathlib.Nat.{add-zero as plus-zero, not-suc-le-zero}
+use Prim.Native.Nat.{ℕ, _+_, _*_, _-_, _≤_, _<_}
 use mathlib.Core.Path.{_≡_}
 use mathlib.Core.List.{List}
 use mathlib.Core.Bool.{true, false, and-false}
 use mathlib.Core.Logic.{⊎-elim}
 use lib.ListN.{getD}
-use Rattle.fields.specs.Bounded.{all}
-use Rattle.fields.proofs.Bounded.{all-none, all-more}
-use Rattle.diagram.specs.Inner.Bytes.{isUnlike}
-use Rattle.diagram.proofs.Loops.{all-end, all-broken}
-use Rattle.diagram.proofs.sound.unlike.Statement.{statement}
-use Rattle.diagram.proofs.sound.unlike.Tie as tie
+use Rattle.fields.proofs.Least.{least-is, least-none}
+use Rattle.diagram.specs.Inner.Bytes.{isLike}
+use Rattle.diagram.proofs.Pairs.{none-more}
+use Rattle.diagram.proofs.twins.first_like.Statement.{statement}
+use Rattle.diagram.proofs.twins.first_like.Tie as tie
 
 -- Two nodes are alike if both edges are, and differ if one does.
 module _ (edges : List ℕ) (from v u : ℕ) where
   alike : getD edges (from + 2 * u) 0 ≡ getD edges (from + 2 * v) 0 →
-      getD edges (from + (2 * u + 1)) 0 ≡ getD edges (from + (2 * v + 1)) 0 → isUnlike edges from v u ≡ false
+      getD edges (from + (2 * u + 1)) 0 ≡ getD edges (from + (2 * v + 1)) 0 → isLike edges from v u ≡ true
   alike e f = simp (plus-zero, eq-eqb _ _ e, eq-eqb _ _ f)
 
-  differ-zero : (getD edges (from + 2 * u) 0 ≡ getD edges (from + 2 * v) 0 → ⊥) → isUnlike edges from v u ≡ true
+  differ-zero : (getD edges (from + 2 * u) 0 ≡ getD edges (from + 2 * v) 0 → ⊥) → isLike edges from v u ≡ false
   differ-zero h = simp (plus-zero, ne-eqb _ _ h)
 
-  differ-one : (getD edges (from + (2 * u + 1)) 0 ≡ getD edges (from + (2 * v + 1)) 0 → ⊥) → isUnlike edges from v u ≡ true
+  differ-one : (getD edges (from + (2 * u + 1)) 0 ≡ getD edges (from + (2 * v + 1)) 0 → ⊥) → isLike edges from v u ≡ false
   differ-one h = simp (ne-eqb _ _ h, and-false)
 
 abbrev Inv-loop : tie.InvT-loop
-Inv-loop edges from v zero one u₀ u = (u ≤ v) × (all u (isUnlike edges from v) ≡ true)
+Inv-loop edges from v zero one u₀ u = (u ≤ v) × ((i : ℕ) → i < u → isLike edges from v i ≡ false)
 
 abbrev μ-loop : tie.MeasureT-loop
 μ-loop edges from v zero one u₀ u = v - u
@@ -56,7 +55,7 @@ shared-slice-read-one : tie.Need-shared-slice-read-one Inv-loop μ-loop
 shared-slice-read-one c = search needs
 
 loop-holds : tie.Need-loop-holds Inv-loop μ-loop
-loop-holds c = (omega arith, all-none _)
+loop-holds c = (omega arith, λ i h. absurd (not-suc-le-zero h))
 
 mul-if1 : tie.Need-mul-if1 Inv-loop μ-loop
 mul-if1 c = search needs
@@ -84,7 +83,7 @@ returns c =
     let loop = c .before .before .before .before .before .loop in
     let a = c .before .before .before .before .before .before .before .before .args in
     let e = alike (a .edges .now) (a .from) (a .v) (loop .u) (c .before .before .if1 .taken) (c .if2 .taken) in
-    all-broken _ _ _ (c .before .before .before .before .loop-test .taken) e
+    least-is _ (record { below = c .before .before .before .before .loop-test .taken; passes = e; none = loop .inv .1 })
 
 add-u : tie.Need-add-u Inv-loop μ-loop
 add-u c = search needs
@@ -99,15 +98,15 @@ loop-again c =
     let e =
     ⊎-elim (λ w. differ-one (a .edges .now) (a .from) (a .v) (loop .u) (w .2 .left))
     (λ w. differ-zero (a .edges .now) (a .from) (a .v) (loop .u) (w .left)) (c .if1 .came) in
-    (omega arith, all-more _ _ (loop .inv .1) e)
+    (omega arith, none-more _ (loop .inv .1) e)
 
 returns-2 : tie.Need-returns-2 Inv-loop μ-loop
 returns-2 c =
     let inv = c .before .loop .inv in
-    all-end _ _ _ (inv .0) (c .loop-test .left) (inv .1)
+    least-none _ (λ i h. inv .1 i (omega arith))
 
-pub unlike-spec : {M : Type 1} → statement M
-unlike-spec =
+pub first-like-spec : {M : Type 1} → statement M
+first-like-spec =
     tie.close
     (tie.spec
     Inv-loop
