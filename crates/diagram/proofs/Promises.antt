@@ -1,15 +1,15 @@
 -- The promises of the search behind question 6.
 use Prim.Native.Nat.{ℕ, zero, suc, _+_, _*_, _-_, _<_}
+use native.Mathlib.Nat.{le-of-suc-le-suc, lt-of-not-le}
 use native.Mathlib.Omega.{arith}
 use mathlib.Core.Path.{_≡_, refl, sym, ap, ap₂, _∙_}
 use mathlib.Core.Bool.{Bool, true, false, not, _&&_, _||_, cond, or-false, false≢true}
-use borrow.Author.Tests.{ltb-true, lt-ltb, le-ltb, eqb-true, eq-eqb, ne-eqb, not-false}
+use borrow.Author.Tests.{lt-ltb, le-ltb, eqb-true, eq-eqb, ne-eqb, not-false}
 use lib.Dec.{ltb, eqb}
 use Rattle.fields.proofs.Bounded.{and-left, and-right, any-at}
 use Rattle.fields.proofs.Least.{First, least-first}
 use Rattle.diagram.specs.declared.Diagram.{Diagram}
 use Rattle.diagram.specs.declared.twins.Pair.{Pair}
-use Rattle.diagram.specs.declared.twins.Twins.{Twins}
 use Rattle.diagram.specs.declared.twins.Twins.the-variants.{Absent, Present}
 use Rattle.diagram.specs.Diagram.{width, bit, edge}
 use Rattle.diagram.specs.Questions.{alike, distinct}
@@ -17,14 +17,10 @@ use Rattle.diagram.specs.Twins.{repeats, firstPair, twinsOf, total, pair
 use Rattle.diagram.specs.Promises.{AreAlike, isBefore, FirstTwins, NoTwins, isUpTo, PairsCounted, AllPairs}
 use Rattle.diagram.proofs.Paths.{unlike}
 use Rattle.diagram.proofs.Pairs.{hasAlike, distinct-is}
-use Rattle.diagram.proofs.Totals.{total-same, total-ones, total-upTo, ones, zeros, twice}
+use Rattle.diagram.proofs.Totals.{total-same, total-upTo, ones, zeros, twice}
 
 not-below : (a b : ℕ) → (a < b → ⊥) → ltb a b ≡ false
-not-below a b h = go (ltb a b) refl
-  where
-    go : (t : Bool) → ltb a b ≡ t → t ≡ false
-    go true e = absurd (h (ltb-true a b e))
-    go false e = refl
+not-below a b h = le-ltb a b (le-of-suc-le-suc (lt-of-not-le h))
 
 -- The order of two pairs is that of the first numbers in which they differ.
 abbrev pair : ℕ → ℕ → ℕ → Pair
@@ -48,23 +44,15 @@ module _ (p : Pair) where
 
 -- The two answers differ, and a pair is what one says.
 absent-present : {q : Pair} → Absent ≡ Present q → ⊥
-absent-present e = let z : _≡_ {A = ℕ} 0 1 = ap found e in omega arith
-  where
-    found : Twins → ℕ
-    found Absent = 0
-    found (Present q) = 1
+absent-present e = let z : _≡_ {A = ℕ} 0 1 = cc in omega arith
 
 present-is : {p q : Pair} → Present p ≡ Present q → p ≡ q
-present-is {p} e = ap pairIn e
-  where
-    pairIn : Twins → Pair
-    pairIn Absent = p
-    pairIn (Present q) = q
+present-is e = cc
 
 -- A pair of alike nodes, by the tests.
 module _ (d : Diagram) (q : Pair) (h : AreAlike d q) where
   alike-there : alike d (q .level) (q .earlier) (q .later) ≡ true
-  alike-there = rw (eq-eqb _ _ (h .edges false), eq-eqb _ _ (h .edges true))
+  alike-there = ap₂ _&&_ (eq-eqb _ _ (h .edges false)) (eq-eqb _ _ (h .edges true))
 
   repeats-there : repeats d (q .level) (q .later) ≡ true
   repeats-there = any-at _ (q .later) (q .earlier) (h .earlier) alike-there
@@ -139,7 +127,7 @@ module _ (d : Diagram) (some : distinct d ≡ false) where
       total-upTo (p .later) (p .earlier) _ (λ _. 1) (earlier-first .below)
       (λ u l. ap opposite (same-node p u ∙ le-ltb (p .earlier) u (omega arith)))
       (λ u l. ap opposite (same-node p u ∙ lt-ltb (p .earlier) u l))
-      ∙ ap₂ _+_ (total-ones (p .earlier)) (ap opposite (same-node p (p .earlier) ∙ le-ltb (p .earlier) (p .earlier) (omega arith)))
+      ∙ ap₂ _+_ (ones (p .earlier) _ (λ _. refl)) (ap opposite (same-node p (p .earlier) ∙ le-ltb (p .earlier) (p .earlier) (omega arith)))
 
   in-level : total (width d (p .level)) (λ v. total v (upTo (p .level) v)) ≡ pairsAmong (p .later) + (p .earlier + 1)
   in-level =
@@ -162,7 +150,7 @@ module _ (d : Diagram) (some : distinct d ≡ false) where
 -- All pairs.
 all-counted : (d : Diagram) → pairsBefore d (d .contacts) ≡ total (d .contacts) (λ l. total (width d l) (λ v. total v (λ u. 1)))
 all-counted d =
-    total-same (d .contacts) _ _ (λ l _. total-same (width d l) _ _ (λ v _. sym (total-ones v)))
+    total-same (d .contacts) _ _ (λ l _. total-same (width d l) _ _ (λ v _. sym (ones v _ (λ _. refl))))
 
 -- By whether the diagram's nodes are distinct.
 pub first-twins : FirstTwins

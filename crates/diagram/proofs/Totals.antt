@@ -3,7 +3,7 @@ use Prim.Native.Nat.{ℕ, zero, suc, _+_, _*_, _<_}
 use native.Mathlib.Nat.{eq-or-lt-of-le, le-of-suc-le-suc, not-suc-le-zero, mul-suc, suc-mul}
 use native.Mathlib.Numerals.{add-one}
 use native.Mathlib.Omega.{arith}
-use mathlib.Core.Path.{_≡_, refl, ap, ap₂, _∙_}
+use mathlib.Core.Path.{_≡_, refl, ap, ap₂}
 use mathlib.Core.Logic.{⊎-elim}
 use Rattle.diagram.specs.Twins.{total, pairsAmong}
 
@@ -16,15 +16,15 @@ unfolding total
 total-same zero f g h = refl
 total-same (suc k) f g h = ap₂ _+_ (total-same k f g (λ i l. h i (omega arith))) (h k (omega arith))
 
-pub total-ones : (k : ℕ) → total k (λ _. 1) ≡ k
+pub ones : (k : ℕ) (f : ℕ → ℕ) → ((i : ℕ) → f i ≡ 1) → total k f ≡ k
 unfolding total
-total-ones zero = refl
-total-ones (suc k) = omega (arith, total-ones k)
+ones zero f h = refl
+ones (suc k) f h = omega (arith, ones k f h, h k)
 
-total-zeros : (k : ℕ) → total k (λ _. 0) ≡ 0
+pub zeros : (k : ℕ) (f : ℕ → ℕ) → ((i : ℕ) → f i ≡ 0) → total k f ≡ 0
 unfolding total
-total-zeros zero = refl
-total-zeros (suc k) = omega (arith, total-zeros k)
+zeros zero f h = refl
+zeros (suc k) f h = omega (arith, zeros k f h, h k)
 
 pub total-upTo : (k r : ℕ) (f g : ℕ → ℕ) → r < k → ((i : ℕ) → i < r → f i ≡ g i) → ((i : ℕ) → r < i → f i ≡ 0) →
     total k f ≡ total r g + f r
@@ -33,12 +33,6 @@ total-upTo zero r f g h low high = absurd (not-suc-le-zero h)
 total-upTo (suc k) r f g h low high =
     ⊎-elim (λ e. rw e (ap (λ (s : ℕ). s + f k) (total-same k f g (λ i l. low i (omega arith)))))
     (λ l. omega (arith, total-upTo k r f g l low high, high k l)) (eq-or-lt-of-le (le-of-suc-le-suc h))
-
-pub ones : (k : ℕ) (f : ℕ → ℕ) → ((i : ℕ) → f i ≡ 1) → total k f ≡ k
-ones k f h = total-same k f (λ _. 1) (λ i _. h i) ∙ total-ones k
-
-pub zeros : (k : ℕ) (f : ℕ → ℕ) → ((i : ℕ) → f i ≡ 0) → total k f ≡ 0
-zeros k f h = total-same k f (λ _. 0) (λ i _. h i) ∙ total-zeros k
 
 -- Twice the pairs of w + 1 nodes.
 pub twice : (w : ℕ) → 2 * pairsAmong (suc w) ≡ suc w * w

@@ -29,10 +29,11 @@ unfoldable pub total : ℕ → (ℕ → ℕ) → ℕ
 total zero f = 0
 total (suc k) f = total k f + f k
 
--- How many pairs so many nodes have: each node makes one with every node before it. How many the levels before l have.
+-- How many pairs so many nodes have: each node makes one with every node before it.
 abbrev pub pairsAmong : ℕ → ℕ
 pairsAmong w = total w (λ v. v)
 
+-- How many pairs the levels before l have.
 abbrev pub pairsBefore : Diagram → ℕ → ℕ
 pairsBefore d l = total l (λ i. pairsAmong (width d i))
 

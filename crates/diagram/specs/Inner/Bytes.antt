@@ -21,7 +21,8 @@ edgeIn bytes from u b = getD bytes (from + (2 * u + bit b)) 0
 
 -- Whether node u has the edges of node v.
 abbrev pub isLike : List ℕ → ℕ → ℕ → ℕ → Bool
-isLike bytes from v u = eqb (edgeIn bytes from u false) (edgeIn bytes from v false) && eqb (edgeIn bytes from u true) (edgeIn bytes from v true)
+isLike bytes from v u =
+    eqb (edgeIn bytes from u false) (edgeIn bytes from v false) && eqb (edgeIn bytes from u true) (edgeIn bytes from v true)
 
 -- Whether node u's edges differ.
 abbrev pub isFork : List ℕ → ℕ → ℕ → Bool
