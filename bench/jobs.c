@@ -179,9 +179,9 @@ void use_late_drawing(void)
     use_drawing(&d);
 }
 
-void use_empty_drawing(unsigned contacts)
+void use_empty_drawing(unsigned contacts, unsigned outputs)
 {
-    struct drawing d = {.contacts = contacts, .outputs = 8, .output = {0, 1, 1, 0, 1, 0, 0, 1}};
+    struct drawing d = {.contacts = contacts, .outputs = outputs, .output = {0, 1, 1, 0, 1, 0, 0, 1}};
     use_drawing(&d);
 }
 

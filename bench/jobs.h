@@ -51,8 +51,8 @@ void use_random_drawing(unsigned contacts, unsigned outputs);
  * three are closed. */
 void use_late_drawing(void);
 
-/* A drawing of so many contacts with constants as its eight outputs and no nodes. */
-void use_empty_drawing(unsigned contacts);
+/* A drawing of so many contacts with constants as its outputs, eight at most, and no nodes. */
+void use_empty_drawing(unsigned contacts, unsigned outputs);
 
 /* A drawing of 12 contacts and 200 nodes that has nine functions in a level. */
 void use_wide_drawing(unsigned level);

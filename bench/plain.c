@@ -511,9 +511,12 @@ struct drawing {
     const uint8_t *output, *node; /* one byte, three bytes each */
 };
 
-/* The truth table of each number of a drawing. Bit q is the value at the input in which contact l is bit n-1-l of q, so that fixing
- * the first l contacts leaves 2^(n-l) bits in a row. */
-static uint64_t truth[2 + MOST_NODES][WORDS];
+/* The truth table of each output. Bit q is the value at the input in which contact l is bit n-1-l of q, so that fixing the first l
+ * contacts leaves 2^(n-l) bits in a row. The last six contacts vary within a word, the others are fixed. */
+static uint64_t truth[8][WORDS];
+
+/* The word of each constant and of each node of the last six levels. */
+static uint64_t number_word[2 + MOST_NODES];
 
 /* The bits i of the places in a word. */
 static const uint64_t place_bit[6] = {
@@ -545,27 +548,42 @@ static bool read_drawing(const uint8_t *file, size_t length, struct drawing *d)
     return all_below(d->output, d->outputs, 2 + d->nodes);
 }
 
-static void put_truth(const struct drawing *d, unsigned i, unsigned words)
+/* The words of the constants and of the nodes from a level on, the highest level first. */
+static void put_words(const struct drawing *d, unsigned fixed)
 {
-    const uint8_t *node = d->node + 3 * i;
-    unsigned place = d->contacts - 1 - node[0];
-    const uint64_t *zero = truth[node[1]], *one = truth[node[2]];
-    for (unsigned w = 0; w < words; w++) {
-        uint64_t closed = place < 6 ? place_bit[place] : -(uint64_t)(w >> (place - 6) & 1);
-        truth[2 + i][w] = (closed & one[w]) | (~closed & zero[w]);
-    }
+    number_word[0] = 0;
+    number_word[1] = ~(uint64_t)0;
+    for (unsigned level = d->contacts; level-- > fixed;)
+        for (unsigned i = 0; i < d->nodes; i++) {
+            const uint8_t *node = d->node + 3 * i;
+            uint64_t closed = place_bit[d->contacts - 1 - level];
+            if (node[0] == level)
+                number_word[2 + i] = (closed & number_word[node[2]]) | (~closed & number_word[node[1]]);
+        }
 }
 
-/* The truth tables of all nodes, the highest level first. */
+/* The truth table of a number over the last of the fixed contacts, so many: one word, or that of either edge, again and again. */
+static void put_block(const struct drawing *d, unsigned fixed, unsigned number, unsigned left, uint64_t *at)
+{
+    const uint8_t *node = number < 2 ? NULL : d->node + 3 * (number - 2);
+    if (node == NULL || node[0] >= fixed) {
+        for (unsigned w = 0; w < 1u << left; w++)
+            at[w] = number_word[number];
+        return;
+    }
+    unsigned half = fixed - 1 - node[0], size = 2u << half;
+    put_block(d, fixed, node[1], half, at);
+    put_block(d, fixed, node[2], half, at + size / 2);
+    for (unsigned w = size; w < 1u << left; w++)
+        at[w] = at[w - size];
+}
+
 static void put_truths(const struct drawing *d)
 {
-    unsigned words = d->contacts <= 6 ? 1 : 1u << (d->contacts - 6);
-    memset(truth[0], 0, 8 * words);
-    memset(truth[1], 0xff, 8 * words);
-    for (unsigned level = d->contacts; level-- > 0;)
-        for (unsigned i = 0; i < d->nodes; i++)
-            if (d->node[3 * i] == level)
-                put_truth(d, i, words);
+    unsigned fixed = d->contacts <= 6 ? 0 : d->contacts - 6;
+    put_words(d, fixed);
+    for (unsigned j = 0; j < d->outputs; j++)
+        put_block(d, fixed, d->output[j], fixed, truth[j]);
 }
 
 /* A function that is left with some contacts fixed: the bits of a truth table from one on. */
@@ -629,7 +647,7 @@ pilgodur_built plain_from_drawing(const uint8_t *drawing, size_t drawing_len, ui
     *at++ = (uint8_t)d.contacts;
     at = put_head(at, 2, d.outputs);
     for (unsigned j = 0; j < d.outputs; j++)
-        *at++ = (uint8_t)mention(&levels[0], 1u << d.contacts, (struct part){truth[d.output[j]], 0});
+        *at++ = (uint8_t)mention(&levels[0], 1u << d.contacts, (struct part){truth[j], 0});
     for (unsigned l = 0; l < d.contacts; l++) {
         at = put_head(at, 3, 2 * levels[l].width);
         if (!put_level(&levels[l], 1u << (d.contacts - l - 1), &levels[l + 1], at))

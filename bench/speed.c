@@ -193,8 +193,10 @@ static void add_drawings(void)
     add_row(label("from-drawing, 6 contacts, %u nodes", job.nodes), do_from_drawing, 1);
     use_largest_drawing(2, 0);
     add_row(label("from-drawing, 2 contacts, %u nodes", job.nodes), do_from_drawing, 1);
-    use_empty_drawing(12);
-    add_row("from-drawing, 12 contacts, no nodes", do_from_drawing, 1);
+    use_empty_drawing(12, 8);
+    add_row("from-drawing, 12 contacts, 8 outputs, no nodes", do_from_drawing, 1);
+    use_empty_drawing(1, 1);
+    add_row("from-drawing, 1 contact, 1 output, no nodes", do_from_drawing, 1);
     use_wide_drawing(10);
     add_row("from-drawing, 12 contacts, 200 nodes, refused by 17", do_from_drawing, 1);
 }

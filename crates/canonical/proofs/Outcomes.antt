@@ -1,7 +1,7 @@
 -- What writing a table returns and leaves, by the answers to questions 17 and 9.
-use Prim.Native.Nat.{ℕ, _≤_}
+use Prim.Native.Nat.{ℕ, _≤_, _<_}
 use native.Mathlib.Omega.{arith}
-use mathlib.Core.Path.{_≡_, refl, sym, ap, _∙_}
+use mathlib.Core.Path.{_≡_, refl, sym, ap, ap₂, _∙_}
 use mathlib.Core.Bool.{Bool, true, false, cond}
 use mathlib.Core.List.{List}
 use lib.ListN.{length, take}
@@ -12,6 +12,7 @@ use Rattle.files.proofs.Buffers.{enough, sets-over, taken-back}
 use Rattle.files.proofs.Writing.{refused-before, too-short, written-whole}
 use Rattle.table.specs.Encode.{bytesOf}
 use Rattle.functions.specs.Functions.{Function, canonical, isNarrow}
+use Rattle.functions.proofs.Agreeing.{narrow-same, table-same}
 use Rattle.canonical.specs.declared.layout.Laid.the-variants.{Whole, Wide}
 use Rattle.canonical.specs.Service.{laidOf, laidNumber, tablingOf}
 
@@ -58,3 +59,11 @@ module _ (n m : ℕ) (f : ℕ → Function) where
           let room = rw size at q in
           written-whole bytes buffer room size (a ∙ sets-over bytes buffer (enough (length bytes) (length buffer) room))
           ∙ ap (λ (j : ℕ). writingOf j bytes buffer) (sym number)
+
+-- Functions that agree below m are written alike.
+pub tabling-same : (n m : ℕ) (f g : ℕ → Function) (buffer : List ℕ) → ((j : ℕ) → j < m → f j ≡ g j) →
+    tablingOf n m f buffer ≡ tablingOf n m g buffer
+unfolding tablingOf
+tabling-same n m f g buffer agree =
+    ap₂ (λ (b : Bool) (bytes : List ℕ). writingOf (laidNumber (cond b (Whole (length bytes)) Wide)) bytes buffer)
+    (narrow-same n m f g agree) (table-same n m f g agree)

@@ -1,19 +1,16 @@
 -- The bytes of a table's file, field by field.
 use Prim.Native.Nat.{ℕ, suc, _+_, _-_, _*_, _/_, _%_, _^_, _≤_, _<_}
-use native.Mathlib.Nat.{zero-mod}
 use native.Mathlib.Omega.{arith}
 use mathlib.Core.Path.{_≡_, refl, sym, ap, ap₂, _∙_}
 use mathlib.Core.List.{List, [], _∷_}
 use lib.ListN.{length, getD, set}
-use lib.Pow.{pow-mono, mod-mod-pow}
 use lib.Seq.{sets}
 use Rattle.fields.specs.Bounded.{listed}
 use Rattle.fields.specs.Fields.{fieldBytes}
 use Rattle.fields.proofs.Listed.{length-listed, listed-same}
 use Rattle.files.proofs.Written.{onward}
 use Rattle.functions.specs.Functions.{Function, halfAt, numberIn, firsts, levelOf}
-use Rattle.functions.proofs.Firsts.{firsts-same}
-use Rattle.canonical.specs.Inner.Blocks.{blockAt, mentionAt, levelAt, outputAt, blocksAt, nextOf, levelBytes, headBytes, Blocks, Put, Numbered}
+use Rattle.canonical.specs.Inner.Blocks.{mentionAt, levelAt, blocksAt, nextOf, levelBytes, headBytes, Blocks, Put, Numbered}
 use Rattle.canonical.proofs.Searching.{length-blocks}
 use Rattle.canonical.proofs.Halves.{half-mention, next-level}
 
@@ -58,47 +55,25 @@ module _ (ws : List ℕ) (left width : ℕ) (starts mentions : List ℕ) (blocks
       }
 
 -- The fields before the levels'.
-module _ (ws : List ℕ) (n m : ℕ) (mentions : List ℕ) (few : m ≤ 8) (placed : (j : ℕ) → j < m → getD mentions j 0 ≡ 4096 * j) where
-  whole-output : (j : ℕ) → n ≤ 12 → 4096 * j % 2 ^ n ≡ 0
-  whole-output j h =
-      let e : 12 - n + n ≡ 12 = omega arith in
-      let z : 4096 * j % 4096 ≡ 0 = omega arith in
-      sym (mod-mod-pow (4096 * j) (12 - n) n) ∙ ap (λ (k : ℕ). 4096 * j % 2 ^ k % 2 ^ n) e
-      ∙ ap (λ (x : ℕ). x % 2 ^ n) z
-      ∙ zero-mod (2 ^ n)
-
-  pub outputs-blocks : n ≤ 12 → length ws ≡ 512 → m ≤ length mentions → Blocks ws n m mentions
-  outputs-blocks h e l =
-      let p : 2 ^ n ≤ 4096 = pow-mono h in
-      record { listed = l; each = λ j i. rw (placed j i) (record { whole = whole-output j h; within = omega arith }) }
-
+module _ (ws : List ℕ) (n m : ℕ) (outputs : List ℕ) where
   abbrev output : ℕ → Function
-  output = outputAt ws n
+  output = mentionAt ws n outputs
 
-  output-mention : (j : ℕ) → j < m → mentionAt ws n mentions j ≡ output j
-  output-mention j l = ap (blockAt ws n) (placed j l)
-
-  pub outputs-level : levelAt ws n mentions m ≡ levelOf output m 0
+  pub head-level : firsts output m ≡ levelOf output m 0
   unfolding levelOf
-  outputs-level = firsts-same (mentionAt ws n mentions) output m output-mention
+  head-level = refl
 
   abbrev roots : List ℕ
-  roots = listed (λ j. numberIn (levelAt ws n mentions m) (mentionAt ws n mentions j)) m 0
+  roots = listed (λ j. numberIn (firsts output m) (output j)) m 0
 
-  head-bytes : 1 ∷ 0 ∷ 1 ∷ n ∷ 2 ∷ 0 ∷ m ∷ roots ≡ headBytes n m output
-  head-bytes =
-      ap (λ (l : List ℕ). 1 ∷ 0 ∷ 1 ∷ n ∷ l)
-      (field-bytes 2 m roots (length-listed _ m 0) (omega arith)
-      ∙ ap (λ (v : List ℕ). fieldBytes (record { tag = 2; value = v }))
-      (numbers-same (mentionAt ws n mentions) output (levelAt ws n mentions m) (firsts output m) m
-      (firsts-same (mentionAt ws n mentions) output m output-mention) output-mention))
-
-  pub head-put : {before a b after starts : List ℕ} → a ≡ sets before 0 (1 ∷ 0 ∷ 1 ∷ []) → b ≡ sets (set a 3 n) 4 (2 ∷ 0 ∷ m ∷ []) →
-      Numbered ws n m mentions 7 b after starts → Put ws n (levelOf output m 0) 0 (headBytes n m output) before after starts
-  head-put {before} d e k =
+  pub head-put : {before a b after starts : List ℕ} → m ≤ 8 → a ≡ sets before 0 (1 ∷ 0 ∷ 1 ∷ []) → b ≡ sets (set a 3 n) 4 (2 ∷ 0 ∷ m ∷ []) →
+      Numbered ws n m outputs 7 b after starts → Put ws n (levelOf output m 0) 0 (headBytes n m output) before after starts
+  unfolding levelOf
+  head-put {before} few d e k =
       let first = onward before 0 (1 ∷ 0 ∷ 1 ∷ []) (n ∷ []) d refl refl in
       let second = onward before 0 (1 ∷ 0 ∷ 1 ∷ n ∷ []) (2 ∷ 0 ∷ m ∷ []) first e refl in
       record {
-        written = onward before 0 (1 ∷ 0 ∷ 1 ∷ n ∷ 2 ∷ 0 ∷ m ∷ []) roots second (k .written) refl ∙ ap (sets before 0) head-bytes;
-        starts = λ some. rw outputs-level at (k .starts some);
+        written = onward before 0 (1 ∷ 0 ∷ 1 ∷ n ∷ 2 ∷ 0 ∷ m ∷ []) roots second (k .written) refl
+            ∙ ap (λ (l : List ℕ). sets before 0 (1 ∷ 0 ∷ 1 ∷ n ∷ l)) (field-bytes 2 m roots (length-listed _ m 0) (omega arith));
+        starts = k .starts;
       }

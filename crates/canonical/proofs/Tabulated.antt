@@ -10,18 +10,19 @@ use mathlib.Core.List.{List}
 use borrow.Author.Tests.{eq-eqb, ne-eqb}
 use lib.Arith.{digits-div, digits-mod}
 use lib.Dec.{eqb}
+use lib.ListN.{getD}
 use lib.Pow.{pow-pos, shr-shr}
 use Rattle.diagram.specs.Diagram.{Input, inputOf}
 use Rattle.functions.specs.Functions.{constant, choice, withContact, tree, functionsOf}
 use Rattle.functions.proofs.Trees.{Values}
-use Rattle.canonical.specs.Inner.Blocks.{bitIn, blockAt, outputAt, inputAt}
+use Rattle.canonical.specs.Inner.Blocks.{bitIn, blockAt, mentionAt, inputAt}
 
 -- The bits of a place that is a multiple of 2^(k+1), and of the place 2^k further on: bit k is 0 or 1, those above it are the same.
 module _ (q k : ℕ) (whole : q % 2 ^ suc k ≡ 0) where
   abbrev a : ℕ
   a = q / 2 ^ suc k
 
-  multiple : q ≡ (a + a) * 2 ^ k
+  pub multiple : q ≡ (a + a) * 2 ^ k
   multiple =
       let twice : 2 ^ suc k ≡ 2 ^ k + 2 ^ k = omega arith in
       let e : q ≡ a * 2 ^ suc k = omega (arith, div-add-mod' q (2 ^ suc k)) in
@@ -42,12 +43,12 @@ module _ (q k : ℕ) (whole : q % 2 ^ suc k ≡ 0) where
       let e : q + 2 ^ k ≡ a * 2 ^ suc k + 2 ^ k = omega (arith, div-add-mod' q (2 ^ suc k)) in
       ap (λ (x : ℕ). x / 2 ^ suc k) e ∙ digits-div a (omega (arith, pow-pos k))
 
-  half-whole : q % 2 ^ k ≡ 0
+  pub half-whole : q % 2 ^ k ≡ 0
   half-whole =
       let e : q ≡ (a + a) * 2 ^ k + 0 = omega (arith, multiple) in
       ap (λ (x : ℕ). x % 2 ^ k) e ∙ digits-mod (a + a) (pow-pos k)
 
-  next-whole : (q + 2 ^ k) % 2 ^ k ≡ 0
+  pub next-whole : (q + 2 ^ k) % 2 ^ k ≡ 0
   next-whole =
       let e : q + 2 ^ k ≡ suc (a + a) * 2 ^ k + 0 = omega (arith, multiple, suc-mul (a + a) (2 ^ k)) in
       ap (λ (x : ℕ). x % 2 ^ k) e ∙ digits-mod (suc (a + a)) (pow-pos k)
@@ -101,7 +102,8 @@ module _ (n : ℕ) (ws : List ℕ) (s : ℕ) (v : Input → ℕ) (values : Value
       let e : s ≡ s + 0 = omega arith in
       ap (blockAt ws n) e ∙ block-tree n 0 0 (λ _. false) (omega arith) whole (omega arith) (λ i h. absurd (omega arith))
 
--- The truth tables of some outputs.
-pub outputs-are : (n m : ℕ) (ws : List ℕ) (v : ℕ → Input → ℕ) → ((j : ℕ) → j < m → Values n (v j)) →
-    ((j q : ℕ) → j < m → q < 2 ^ n → bitIn ws (4096 * j + q) ≡ v j (inputAt n q)) → (j : ℕ) → j < m → outputAt ws n j ≡ functionsOf n v j
-outputs-are n m ws v values tabulated j h = block-is n ws (4096 * j) (v j) (values j h) (λ q g. tabulated j q h g)
+-- The truth tables of some outputs, each from a place on.
+pub outputs-are : (n m : ℕ) (ws starts : List ℕ) (v : ℕ → Input → ℕ) → ((j : ℕ) → j < m → Values n (v j)) →
+    ((j q : ℕ) → j < m → q < 2 ^ n → bitIn ws (getD starts j 0 + q) ≡ v j (inputAt n q)) →
+    (j : ℕ) → j < m → mentionAt ws n starts j ≡ functionsOf n v j
+outputs-are n m ws starts v values tabulated j h = block-is n ws (getD starts j 0) (v j) (values j h) (λ q g. tabulated j q h g)

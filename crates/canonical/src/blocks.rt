@@ -1,5 +1,5 @@
-// Truth tables, 64 bits a word. Output j's begins at bit 4,096 j; contact 0 weighs most in it, so fixing the first contacts leaves a
-// block of it, whose first half is for the next contact open, its second half for that contact closed.
+// Truth tables, 64 bits a word. Contact 0 weighs most, so fixing the first contacts leaves a block of bits, whose first half is for the
+// next contact open, its second half for that contact closed.
 ghost use mathlib.Core.Path.{_≡_};
 ghost use Prim.Native.Nat.{_+_, _/_, _%_, _^_, _≤_, _<_};
 ghost use lib.Dec.{eqb};

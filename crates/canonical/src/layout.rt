@@ -1,4 +1,4 @@
-// The table file of the functions that truth tables give.
+// The table file of the functions that truth tables give. The outputs are by the places where their truth tables begin.
 use crate::levels;
 use files::Room;
 use files::Written;
@@ -10,7 +10,7 @@ ghost use lib.ListN.{length};
 ghost use lib.Seq.{sets};
 ghost use Rattle.table.specs.Encode.{bytesOf};
 ghost use Rattle.functions.specs.Functions.{levelOf, canonical, isNarrow};
-ghost use Rattle.canonical.specs.Inner.Blocks.{outputAt, widthOf, blocksAt, nextOf, headBytes, levelBytes, Blocks, Put};
+ghost use Rattle.canonical.specs.Inner.Blocks.{mentionAt, widthOf, blocksAt, nextOf, headBytes, levelBytes, Blocks, Put};
 ghost use Rattle.canonical.specs.Service.{laidOf, tablingOf};
 
 // Question 17's answer: the length of the table's file, or that a level has more than eight functions.
@@ -30,20 +30,24 @@ fn put_head(file: &mut [u8], at: usize, tag: u8, len: usize)
 }
 
 // Writes the fields before the levels', lists the functions of the outputs and returns their count; 9 stands for more than eight.
-fn put_outputs(truths: &[u64], n: usize, m: usize, firsts: &mut [usize], file: &mut [u8]) -> usize
-    requires { ⌜ (n ≤ 12) × (m ≤ 8) × (length (now truths) ≡ 512) × (length (now firsts) ≡ 8) × (7 + m ≤ length (now file)) ⌝ }
-    ensures { λ r. ⌜ r ≡ widthOf n (levelOf (outputAt (now (truths .entry)) n) m 0) ⌝ }
-    ensures { λ r. ⌜ (r ≤ 8 → Put (now (truths .entry)) n (levelOf (outputAt (now (truths .entry)) n) m 0) 0
-        (headBytes n m (outputAt (now (truths .entry)) n)) (now (file .entry)) (now (file .exit)) (now (firsts .exit))) ⌝ }
+fn put_outputs(
+    truths: &[u64],
+    n: usize,
+    outputs: &[usize],
+    m: usize,
+    firsts: &mut [usize],
+    file: &mut [u8],
+) -> usize
+    requires { ⌜ (n ≤ 12) × (m ≤ 8) × Blocks (now truths) n m (now outputs) × (length (now firsts) ≡ 8) × (7 + m ≤ length (now file)) ⌝ }
+    ensures { λ r. ⌜ r ≡ widthOf n (levelOf (mentionAt (now (truths .entry)) n (now (outputs .entry))) m 0) ⌝ }
+    ensures { λ r. ⌜ (r ≤ 8 → Put (now (truths .entry)) n (levelOf (mentionAt (now (truths .entry)) n (now (outputs .entry))) m 0) 0
+        (headBytes n m (mentionAt (now (truths .entry)) n (now (outputs .entry))))
+        (now (file .entry)) (now (file .exit)) (now (firsts .exit))) ⌝ }
 {
-    let mut mentions = [0usize; 8];
-    for j in 0..m {
-        mentions[j] = 4096 * j;
-    }
     put_head(file, 0, 1, 1);
     file[3] = n as u8;
     put_head(file, 4, 2, m);
-    levels::enter(truths, n, &mentions, m, firsts, file, 7)
+    levels::enter(truths, n, outputs, m, firsts, file, 7)
 }
 
 // Writes the field of a level, lists the functions of the next, halves of the level's own, in place of these, and returns their count.
@@ -55,7 +59,7 @@ fn put_level(
     file: &mut [u8],
     at: usize,
 ) -> usize
-    requires { ⌜ (left ≤ 11) × (width ≤ 8) × Blocks (now truths) (suc left) width (now firsts) × (length (now truths) ≡ 512)
+    requires { ⌜ (left ≤ 11) × (width ≤ 8) × Blocks (now truths) (suc left) width (now firsts) × (length (now truths) ≤ 512)
         × (length (now firsts) ≡ 8) × (at + 3 + 2 * width ≤ length (now file)) ⌝ }
     ensures { λ r. ⌜ r ≡ widthOf left (nextOf (blocksAt (now (truths .entry)) (suc left) width (now (firsts .entry)))) ⌝ }
     ensures { λ r. ⌜ (r ≤ 8 → Put (now (truths .entry)) left
@@ -70,15 +74,16 @@ fn put_level(
 }
 
 // Lays the table's file out from the start of a buffer, level by level.
-fn lay(truths: &[u64], n: usize, m: usize, file: &mut [u8]) -> Laid
-    requires { ⌜ (1 ≤ n) × (n ≤ 12) × (1 ≤ m) × (m ≤ 8) × (length (now truths) ≡ 512) × (length (now file) ≡ 243) ⌝ }
-    ensures { λ r. ⌜ r ≡ laidOf n m (outputAt (now (truths .entry)) n) ⌝ }
-    ensures { λ _. ⌜ (isNarrow n m (outputAt (now (truths .entry)) n) ≡ true →
-        (length (bytesOf (canonical n m (outputAt (now (truths .entry)) n))) ≤ 243)
-        × (now (file .exit) ≡ sets (now (file .entry)) 0 (bytesOf (canonical n m (outputAt (now (truths .entry)) n))))) ⌝ }
+fn lay(truths: &[u64], n: usize, outputs: &[usize], m: usize, file: &mut [u8]) -> Laid
+    requires { ⌜ (1 ≤ n) × (n ≤ 12) × (1 ≤ m) × (m ≤ 8) × Blocks (now truths) n m (now outputs) × (length (now truths) ≤ 512)
+        × (length (now file) ≡ 243) ⌝ }
+    ensures { λ r. ⌜ r ≡ laidOf n m (mentionAt (now (truths .entry)) n (now (outputs .entry))) ⌝ }
+    ensures { λ _. ⌜ (isNarrow n m (mentionAt (now (truths .entry)) n (now (outputs .entry))) ≡ true →
+        (length (bytesOf (canonical n m (mentionAt (now (truths .entry)) n (now (outputs .entry))))) ≤ 243)
+        × (now (file .exit) ≡ sets (now (file .entry)) 0 (bytesOf (canonical n m (mentionAt (now (truths .entry)) n (now (outputs .entry))))))) ⌝ }
 {
     let mut firsts = [0usize; 8];
-    let mut width = put_outputs(truths, n, m, &mut firsts, file);
+    let mut width = put_outputs(truths, n, outputs, m, &mut firsts, file);
     let mut at = 7 + m;
     for l in 0..n {
         if 8 < width {
@@ -92,13 +97,13 @@ fn lay(truths: &[u64], n: usize, m: usize, file: &mut [u8]) -> Laid
 }
 
 // Writes the table's file from the start of the lent buffer and returns its length; a refusal leaves the buffer as it came.
-pub fn write(truths: &[u64], n: usize, m: usize, table: &mut [u8]) -> Written
-    requires { ⌜ (1 ≤ n) × (n ≤ 12) × (1 ≤ m) × (m ≤ 8) × (length (now truths) ≡ 512) ⌝ }
+pub fn write(truths: &[u64], n: usize, outputs: &[usize], m: usize, table: &mut [u8]) -> Written
+    requires { ⌜ (1 ≤ n) × (n ≤ 12) × (1 ≤ m) × (m ≤ 8) × Blocks (now truths) n m (now outputs) × (length (now truths) ≤ 512) ⌝ }
     ensures { λ r. ⌜ record { refusal = r .refusal; length = r .length; buffer = now (table .exit) }
-        ≡ tablingOf n m (outputAt (now (truths .entry)) n) (now (table .entry)) ⌝ }
+        ≡ tablingOf n m (mentionAt (now (truths .entry)) n (now (outputs .entry))) (now (table .entry)) ⌝ }
 {
     let mut file = [0u8; 243];
-    let Laid::Whole(length) = lay(truths, n, m, &mut file) else {
+    let Laid::Whole(length) = lay(truths, n, outputs, m, &mut file) else {
         return files::refused(17);
     };
     let Room::Enough = files::ask_room(length, table.len()) else {

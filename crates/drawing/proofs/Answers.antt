@@ -26,17 +26,20 @@ narrow d = isNarrow (d .contacts) (length (d .outputs)) (functionsIn d)
 abbrev pub narrowNumber : Bool → ℕ
 narrowNumber b = cond b 0 17
 
-pub laid-number : (b : Bool) (bytes : ℕ) → laidNumber (cond b (Whole bytes) Wide) ≡ narrowNumber b
+laid-number : (b : Bool) (bytes : ℕ) → laidNumber (cond b (Whole bytes) Wide) ≡ narrowNumber b
 laid-number true bytes = refl
 laid-number false bytes = refl
 
 module _ (file : List ℕ) where
-  pub refusal-is : WellFormed file → drawingRefusal file ≡ narrowNumber (narrow (drawingIn file))
+  abbrev seventeen : ℕ
+  seventeen = laidNumber (laidOf (drawingIn file .contacts) (length (drawingIn file .outputs)) (functionsIn (drawingIn file)))
+
+  pub refusal-laid : WellFormed file → drawingRefusal file ≡ seventeen
   unfolding drawingRefusal
-  refusal-is w =
-      let k = laidNumber (laidOf (drawingIn file .contacts) (length (drawingIn file .outputs)) (functionsIn (drawingIn file))) in
-      ap (λ (a : ℕ). firstNo (a ∷ k ∷ [])) w ∙ first-last k
-      ∙ laid-number (narrow (drawingIn file)) (length (tableFor (drawingIn file)))
+  refusal-laid w = ap (λ (a : ℕ). firstNo (a ∷ seventeen ∷ [])) w ∙ first-last seventeen
+
+  pub refusal-is : WellFormed file → drawingRefusal file ≡ narrowNumber (narrow (drawingIn file))
+  refusal-is w = refusal-laid w ∙ laid-number (narrow (drawingIn file)) (length (tableFor (drawingIn file)))
 
   pub well-formed : drawingRefusal file ≡ 0 → WellFormed file
   unfolding drawingRefusal

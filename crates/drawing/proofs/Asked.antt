@@ -1,5 +1,5 @@
 -- What a yes to question 16 says of a file.
-use Prim.Native.Nat.{ℕ, _≤_, _<_}
+use Prim.Native.Nat.{ℕ, _<_}
 use native.Mathlib.Omega.{arith}
 use mathlib.Core.Path.{_≡_, refl, sym, ap}
 use mathlib.Core.Bool.{Bool, true, false, _&&_, cond}
@@ -14,15 +14,10 @@ use Rattle.files.proofs.Heads.{counts}
 use Rattle.files.proofs.WholeParts.{two-parts}
 use Rattle.functions.proofs.Trees.{Values}
 use Rattle.drawing.specs.declared.form.Form.the-variants.{Formed, Unformed}
-use Rattle.drawing.specs.Drawing.{Drawing, drawingOf, drawingIn, nodeCount, isDrawing, formOf, formNumber, drawnAt}
+use Rattle.drawing.specs.Drawing.{Drawing, drawingOf, drawingIn, isDrawing, formOf, formNumber, drawnAt}
+use Rattle.drawing.specs.Inner.Words.{Limited}
 use Rattle.drawing.specs.Promises.{WellFormed}
 use Rattle.drawing.proofs.Leads.{drawn-values}
-
-pub record Limited (d : Drawing) : Type 0 where
-  pub contacts : (1 ≤ d .contacts) × (d .contacts ≤ 12)
-  pub outputs : (1 ≤ length (d .outputs)) × (length (d .outputs) ≤ 8)
-  pub nodes : nodeCount (d .nodes) ≤ 200
-  pub sound : isDrawing d ≡ true
 
 -- Question 16.
 abbrev isFormed : Fields → Bool

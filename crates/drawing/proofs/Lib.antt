@@ -1,7 +1,8 @@
 pub mod Leads
 pub mod Forms
-pub mod Rows
-pub mod LevelRows
+pub mod Words
+pub mod Reaching
+pub mod Blocks
 pub mod Outputs
 pub mod Asked
 pub mod Answers

@@ -1,7 +1,7 @@
 // The service from-drawing.
 use crate::form;
 use crate::form::Form;
-use crate::truths;
+use crate::writing;
 use files::Written;
 ghost use mathlib.Core.Path.{_≡_};
 ghost use Rattle.drawing.specs.Service.{fromDrawingOf};
@@ -17,7 +17,5 @@ pub fn from_drawing(drawing: &[u8], table: &mut [u8]) -> Written
     };
     let outputs = reader::nth(drawing, 1);
     let nodes = reader::nth(drawing, 2);
-    let mut tables = [0u64; 512];
-    truths::tabulate(n, outputs, nodes, &mut tables);
-    canonical::write(&tables, n, outputs.len(), table)
+    writing::write_table(n, outputs, nodes, table)
 }

@@ -21,10 +21,6 @@ unfoldable pub blockAt : List ℕ → ℕ → ℕ → Function
 blockAt ws zero s = constant (bitIn ws s)
 blockAt ws (suc left) s = choice (blockAt ws left s) (blockAt ws left (s + 2 ^ left))
 
--- The functions of the outputs: output j's truth table begins at bit 4,096 j.
-abbrev pub outputAt : List ℕ → ℕ → ℕ → Function
-outputAt ws n j = blockAt ws n (4096 * j)
-
 -- The input at bit q of a truth table of n contacts: contact 0 weighs most.
 abbrev pub inputAt : ℕ → ℕ → Input
 inputAt n q i = inputOf q (n - suc i)

@@ -5,16 +5,17 @@ use Prim.Native.Nat.{_-_, _≤_}
 use mathlib.Core.Path.{_≡_, refl, sym, _∙_}
 use mathlib.Core.Bool.{false≢true}
 use lib.ListN.{length}
+use Rattle.canonical.specs.Inner.Blocks.{mentionAt}
 use Rattle.canonical.proofs.Laying.{Laying, none-laid, level-blocks, laid-more, wide, answer-wide, answer-whole, first-narrow, laid-narrow, laid-length, laid-whole}
 use Rattle.canonical.proofs.layout.lay.Statement.{statement}
 use Rattle.canonical.proofs.layout.lay.Tie as tie
 
 abbrev Inv-loop : tie.InvT-loop
-Inv-loop truths n m file₀ firsts₀ width₀ at₀ l₀ file firsts width at l =
-    (l ≤ n) × (length firsts ≡ 8) × (length file ≡ 243) × Laying truths n m file₀ at₀ l width at file firsts
+Inv-loop truths n outputs m file₀ firsts₀ width₀ at₀ l₀ file firsts width at l =
+    (l ≤ n) × (length firsts ≡ 8) × (length file ≡ 243) × Laying truths (mentionAt truths n outputs) n m file₀ at₀ l width at file firsts
 
 abbrev μ-loop : tie.MeasureT-loop
-μ-loop truths n m file₀ firsts₀ width₀ at₀ l₀ file firsts width at l = n - l
+μ-loop truths n outputs m file₀ firsts₀ width₀ at₀ l₀ file firsts width at l = n - l
 
 slice-aggregate-put-outputs : tie.Need-slice-aggregate-put-outputs Inv-loop μ-loop
 slice-aggregate-put-outputs c = search needs
@@ -28,13 +29,13 @@ add-at c = search needs
 loop-holds : tie.Need-loop-holds Inv-loop μ-loop
 loop-holds c =
     let put = c .before .before .before in
-    let start = put .before .before .before .before .before in
+    let start = put .before .before .before .before .before .before in
     let a = start .args in
     let made = put .put-outputs .ensures in (
       omega arith,
       omega (arith, put .put-outputs .kept),
-      omega (arith, put .put-outputs .kept, start .pre .5),
-      none-laid (a .truths .now) (a .n) (a .m) _ _ (made .0) (λ h some. made .1 h .starts some),
+      omega (arith, put .put-outputs .kept, start .pre .6),
+      none-laid _ (a .n) (a .m) (a .truths .now) _ _ (made .0) (λ h some. made .1 h .starts some),
     )
 
 same-length : tie.Need-same-length Inv-loop μ-loop
@@ -43,9 +44,9 @@ same-length c = search needs
 returns : tie.Need-returns Inv-loop μ-loop
 returns c =
     let loop = c .before .before .loop in
-    let a = c .before .before .before .before .before .before .before .before .before .before .before .args in
-    let no = wide (a .truths .now) (a .n) (a .m) (loop .inv .3) (c .before .loop-test .taken) (c .if1 .taken) in
-    (answer-wide (a .truths .now) (a .n) (a .m) no, λ yes. absurd (false≢true (sym no ∙ yes)))
+    let a = c .before .before .before .before .before .before .before .before .before .before .before .before .args in
+    let no = wide _ (a .n) (a .m) (loop .inv .3) (c .before .loop-test .taken) (c .if1 .taken) in
+    (answer-wide _ (a .n) (a .m) no, λ yes. absurd (false≢true (sym no ∙ yes)))
 
 sub-put-level : tie.Need-sub-put-level Inv-loop μ-loop
 sub-put-level c = search needs
@@ -59,15 +60,15 @@ slice-aggregate-put-level c = search needs
 put-level-requires : tie.Need-put-level-requires Inv-loop μ-loop
 put-level-requires c κs =
     let loop = c .before .before .before .before .loop in
-    let start = c .before .before .before .before .before .before .before .before .before .before .before .before .before in
+    let start = c .before .before .before .before .before .before .before .before .before .before .before .before .before .before in
     let a = start .args in
     let pre = start .pre in
     let inside = c .before .before .before .loop-test .taken in
     let few = c .before .before .if1 .left in (
       omega (arith, pre .1),
       few,
-      level-blocks (a .truths .now) (a .n) (a .m) (loop .inv .3) inside few,
-      pre .4,
+      level-blocks _ (a .n) (a .m) (loop .inv .3) inside few,
+      pre .5,
       loop .inv .1,
       omega (arith, pre .1, pre .3, loop .inv .2, loop .inv .3 .room),
     )
@@ -92,14 +93,14 @@ loop-again c =
     let put = c .before .before .before in
     let turn = put .before .before .before .before in
     let loop = turn .before .loop in
-    let a = turn .before .before .before .before .before .before .before .before .before .before .args in
+    let a = turn .before .before .before .before .before .before .before .before .before .before .before .args in
     let inside = turn .loop-test .taken in
     let few = put .before .before .before .if1 .left in
     let made = put .put-level .ensures in (
       omega arith,
       omega (arith, put .put-level .kept, loop .inv .1),
       omega (arith, put .put-level .kept, loop .inv .2),
-      laid-more (a .truths .now) (a .n) (a .m) (loop .inv .3) inside few (made .0) (made .1),
+      laid-more _ (a .n) (a .m) (loop .inv .3) inside few (made .0) (made .1),
     )
 
 same-length-2 : tie.Need-same-length-2 Inv-loop μ-loop
@@ -109,17 +110,16 @@ returns-2 : tie.Need-returns-2 Inv-loop μ-loop
 returns-2 c =
     let loop = c .before .loop in
     let put = c .before .before .before .before .before in
-    let start = put .before .before .before .before .before in
+    let start = put .before .before .before .before .before .before in
     let a = start .args in
-    let ws = a .truths .now in
     let end : loop .l ≡ a .n = omega arith in
     let laid = rw end at (loop .inv .3) in
-    let yes = laid-narrow ws (a .n) (a .m) laid refl in
+    let yes = laid-narrow _ (a .n) (a .m) laid refl in
     let made = put .put-outputs .ensures in
-    let head = made .1 (first-narrow ws (a .n) (a .m) (start .pre .0) yes (made .0)) .written in
-    let size = laid-length ws (a .n) (a .m) laid in (
-      answer-whole ws (a .n) (a .m) yes size,
-      λ t. (omega (arith, start .pre .1, start .pre .3, laid .room), laid-whole ws (a .n) (a .m) laid (a .file .now) head),
+    let head = made .1 (first-narrow _ (a .n) (a .m) (start .pre .0) yes (made .0)) .written in
+    let size = laid-length _ (a .n) (a .m) laid in (
+      answer-whole _ (a .n) (a .m) yes size,
+      λ t. (omega (arith, start .pre .1, start .pre .3, laid .room), laid-whole _ (a .n) (a .m) laid (a .file .now) head),
     )
 
 pub lay-spec : {M : Type 1} → statement M

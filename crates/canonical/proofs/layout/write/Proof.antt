@@ -8,7 +8,7 @@ use lib.ListN.{length, replicate}
 use lib.Seq.{sets, length-take-le}
 use Rattle.files.proofs.Buffers.{enough}
 use Rattle.canonical.specs.declared.layout.Laid.the-variants.{Whole}
-use Rattle.canonical.specs.Inner.Blocks.{outputAt}
+use Rattle.canonical.specs.Inner.Blocks.{mentionAt}
 use Rattle.canonical.specs.Service.{laidOf}
 use Rattle.canonical.proofs.Outcomes.{whole-is, laid-bytes, tabled-wide, tabled-short, tabled-whole}
 use Rattle.canonical.proofs.layout.write.Statement.{statement}
@@ -16,20 +16,20 @@ use Rattle.canonical.proofs.layout.write.Tie as tie
 
 -- The file is laid out whole, so long.
 abbrev start : tie.After-length → tie.Start
-start c = c .before .before .before .before .before .before .before
+start c = c .before .before .before .before .before .before .before .before
 
 laid : (c : tie.After-length) → let a = start c .args in
-    laidOf (a .n) (a .m) (outputAt (a .truths .now) (a .n)) ≡ Whole (c .length .given .0 .0)
+    laidOf (a .n) (a .m) (mentionAt (a .truths .now) (a .n) (a .outputs .now)) ≡ Whole (c .length .given .0 .0)
 laid c = sym (c .before .before .before .lay .ensures .0) ∙ c .length .given .1
 
 fits : (c : tie.After-length) → c .length .given .0 .0 ≤ 243
 fits c =
     let a = start c .args in
-    let whole = whole-is (a .n) (a .m) (outputAt (a .truths .now) (a .n)) (laid c) in
+    let whole = whole-is (a .n) (a .m) (mentionAt (a .truths .now) (a .n) (a .outputs .now)) (laid c) in
     omega (arith, whole .1, c .before .before .before .lay .ensures .1 (whole .0) .0)
 
 abbrev file : tie.After-length → List ℕ
-file c = c .before .before .before .lay .last .1 .1 .1 .0
+file c = c .before .before .before .lay .last .1 .1 .1 .1 .0
 
 long : (c : tie.After-length) → c .length .given .0 .0 ≤ length (file c)
 long c = omega (arith, fits c, c .before .before .before .lay .kept)
@@ -55,8 +55,8 @@ refused-requires c κs = search needs
 
 returns : tie.Need-returns
 returns c =
-    let a = c .before .before .before .before .before .before .before .before .args in
-    tabled-wide (a .n) (a .m) (outputAt (a .truths .now) (a .n)) (a .table .now)
+    let a = c .before .before .before .before .before .before .before .before .before .args in
+    tabled-wide (a .n) (a .m) (mentionAt (a .truths .now) (a .n) (a .outputs .now)) (a .table .now)
     (sym (c .before .before .before .before .lay .ensures .0) ∙ c .before .enum-told .given .1) (c .refused .ensures)
 
 ask-room-requires : tie.Need-ask-room-requires
@@ -76,7 +76,7 @@ returns-2 c =
     let asked = c .before .before .before in
     let whole = asked .before .before in
     let a = start whole .args in
-    tabled-short (a .n) (a .m) (outputAt (a .truths .now) (a .n)) (a .table .now) (laid whole)
+    tabled-short (a .n) (a .m) (mentionAt (a .truths .now) (a .n) (a .outputs .now)) (a .table .now) (laid whole)
     (sym (asked .ask-room .ensures) ∙ c .before .enum-told3 .given .1) (c .refused2 .ensures)
 
 array-share-prefix-file : tie.Need-array-share-prefix-file
@@ -91,8 +91,8 @@ copy-requires c κs =
     let whole = told .before .before .before .before in
     omega (arith, length-take-le (whole .length .given .0 .0) (file whole) (long whole), room told)
 
-cast-t17 : tie.Need-cast-t17
-cast-t17 c = omega (arith, fits (c .before .before .before .before .before .before .before .before .before))
+cast-t18 : tie.Need-cast-t18
+cast-t18 c = omega (arith, fits (c .before .before .before .before .before .before .before .before .before))
 
 same-length : tie.Need-same-length
 same-length c = search needs
@@ -103,7 +103,7 @@ returns-3 c =
     let asked = told .before .before in
     let whole = asked .before .before in
     let a = start whole .args in
-    let f = outputAt (a .truths .now) (a .n) in
+    let f = mentionAt (a .truths .now) (a .n) (a .outputs .now) in
     let made = whole .before .before .before .lay .ensures .1 (whole-is (a .n) (a .m) f (laid whole) .0) in
     tabled-whole (a .n) (a .m) f (a .table .now) (laid whole) (sym (asked .ask-room .ensures) ∙ told .enum-told2 .given .1)
     (c .before .before .copy .ensures ∙ ap (sets (a .table .now) 0)
@@ -127,6 +127,6 @@ write-spec =
     array-share-prefix-file
     slice-aggregate-copy
     copy-requires
-    cast-t17
+    cast-t18
     same-length
     returns-3)

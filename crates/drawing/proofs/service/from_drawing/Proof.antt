@@ -1,6 +1,6 @@
 -- `service::from_drawing` meets its contract: refused by question 16, or what writing the table of its truth tables' functions gives.
 use borrow.Author.Needs.{needs}
-use mathlib.Core.Path.{refl, sym, _∙_}
+use mathlib.Core.Path.{sym, _∙_}
 use Rattle.drawing.proofs.Asked.{Opened, opened}
 use Rattle.drawing.proofs.Outcomes.{malformed, tabled}
 use Rattle.drawing.proofs.service.from_drawing.Statement.{statement}
@@ -35,22 +35,8 @@ nth-requires c κs = search needs
 nth-requires-2 : tie.Need-nth-requires-2
 nth-requires-2 c κs = search needs
 
-slice-aggregate-tabulate : tie.Need-slice-aggregate-tabulate
-slice-aggregate-tabulate c = search needs
-
-tabulate-requires : tie.Need-tabulate-requires
-tabulate-requires c κs =
-    let l = open! (c .before) .limited-parts in
-    (l .contacts .0, l .contacts .1, l .outputs .1, l .nodes, refl, l .sound)
-
-slice-aggregate-write : tie.Need-slice-aggregate-write
-slice-aggregate-write c = search needs
-
-write-requires : tie.Need-write-requires
-write-requires c κs =
-    let called = c .before .before .before in
-    let l = open! (called .before .before) .limited-parts in
-    (l .contacts .0, l .contacts .1, l .outputs .0, l .outputs .1, called .tabulate .kept .1 .1 .1 .0)
+write-table-requires : tie.Need-write-table-requires
+write-table-requires c κs = open! (c .before) .limited-parts
 
 same-length : tie.Need-same-length
 same-length c = search needs
@@ -58,8 +44,7 @@ same-length c = search needs
 returns-2 : tie.Need-returns-2
 returns-2 c =
     let written = c .before .before in
-    let called = written .before .before .before .before in
-    written .write .ensures ∙ tabled _ _ _ _ (open! (called .before .before)) (called .tabulate .ensures)
+    written .write-table .ensures ∙ tabled _ _ (open! (written .before .before))
 
 pub from-drawing-spec : {M : Type 1} → statement M
 from-drawing-spec =
@@ -72,9 +57,6 @@ from-drawing-spec =
     returns
     nth-requires
     nth-requires-2
-    slice-aggregate-tabulate
-    tabulate-requires
-    slice-aggregate-write
-    write-requires
+    write-table-requires
     same-length
     returns-2)

@@ -1,54 +1,73 @@
--- `truths::put_outputs` meets its contract. The loop's invariant: the rows of the outputs passed are copied.
+-- `truths::put_outputs` meets its contract. The loop's invariant: the outputs passed have their truth tables.
 use borrow.Author.Needs.{needs}
 use native.Mathlib.Omega.{arith}
-use Prim.Native.Nat.{_-_, _≤_}
-use mathlib.Core.Path.{_≡_, refl, _∙_}
-use lib.ListN.{length, getD}
-use Rattle.drawing.specs.Drawing.{Drawing}
-use Rattle.drawing.proofs.LevelRows.{row-start}
-use Rattle.drawing.proofs.Outputs.{CopiedTo, none-copied, one-copied, all-copied, output-row}
+use Prim.Native.Nat.{_*_, _-_, _%_, _^_, _≤_, _<_}
+use mathlib.Core.Path.{_≡_, refl, ap, _∙_}
+use lib.ListN.{length, length-set}
+use Rattle.drawing.specs.Inner.Words.{Tabulated}
+use Rattle.drawing.proofs.Reaching.{from-start}
+use Rattle.drawing.proofs.Outputs.{none-put, one-put, row-place, row-room}
 use Rattle.drawing.proofs.truths.put_outputs.Statement.{statement}
 use Rattle.drawing.proofs.truths.put_outputs.Tie as tie
 
 abbrev Inv-loop : tie.InvT-loop
-Inv-loop n words outputs nodes values truths₀ j₀ j-end truths j =
-    (j ≤ j-end) × (length truths ≡ length truths₀) × CopiedTo words j outputs values truths
+Inv-loop nodes n fixed outputs values truths₀ starts₀ j₀ j-end truths starts j =
+    (j-end ≡ length outputs) × (j ≤ j-end) × (length truths ≡ length truths₀) × (length starts ≡ length starts₀)
+    × Tabulated n j outputs nodes truths starts
 
 abbrev μ-loop : tie.MeasureT-loop
-μ-loop n words outputs nodes values truths₀ j₀ j-end truths j = j-end - j
+μ-loop nodes n fixed outputs values truths₀ starts₀ j₀ j-end truths starts j = j-end - j
 
-put-rows-requires : tie.Need-put-rows-requires Inv-loop μ-loop
-put-rows-requires c κs = c .before .before .before .before .before .pre .0
+listed : (c : tie.In-loop Inv-loop μ-loop) → c .before .loop .j < length (c .before .before .before .before .before .before .before .args .outputs .now)
+listed c = omega (arith, c .before .loop .inv .0, c .loop-test .taken)
+
+few : (c : tie.In-loop Inv-loop μ-loop) → c .before .loop .j < 8
+few c = omega (arith, listed c, c .before .before .before .before .before .before .before .pre .4)
+
+-- Where the output's truth table begins.
+placed : (c : tie.In-loop Inv-loop μ-loop) → let a = c .before .before .before .before .before .before .before .args in let j = c .before .loop .j in
+    (j * 2 ^ a .fixed % 2 ^ 64 ≡ j * 2 ^ (a .n - 6)) × (j * 2 ^ (a .n - 6) ≤ 512)
+placed c =
+    let start = c .before .before .before .before .before .before .before in
+    row-place (start .args .n) (start .args .fixed) (c .before .loop .j) (start .pre .0 .contacts .1) (start .pre .3) (omega (arith, few c))
 
 loop-holds : tie.Need-loop-holds Inv-loop μ-loop
-loop-holds c = (omega arith, refl, none-copied _ _ _ _)
+loop-holds c = (refl, omega arith, refl, refl, none-put _ _ _ _ _)
 
-mul-copy-row : tie.Need-mul-copy-row Inv-loop μ-loop
-mul-copy-row c = search needs
+shl-to : tie.Need-shl-to Inv-loop μ-loop
+shl-to c = search needs
 
-shared-slice-read-copy-row : tie.Need-shared-slice-read-copy-row Inv-loop μ-loop
-shared-slice-read-copy-row c = search needs
+shared-slice-read-put-block : tie.Need-shared-slice-read-put-block Inv-loop μ-loop
+shared-slice-read-put-block c = search needs
 
-cast-copy-row : tie.Need-cast-copy-row Inv-loop μ-loop
-cast-copy-row c = omega (arith, c .shared-slice-known3 .given (c .before .before .before .before .loop .j))
+cast-put-block : tie.Need-cast-put-block Inv-loop μ-loop
+cast-put-block c = omega (arith, c .shared-slice-known4 .given (c .before .before .loop .j))
 
-mul-copy-row-2 : tie.Need-mul-copy-row-2 Inv-loop μ-loop
-mul-copy-row-2 c =
-    let loop = c .before .before .before .before in
-    let start = loop .before .before .before .before .before .before .before .before .before in
-    let a = start .args in
-    let v = getD (a .outputs .now) (loop .loop .j) 0 in
-    omega (arith, row-start (a .words) v (start .pre .0 .words-most) (omega (arith, c .shared-slice-known3 .given (loop .loop .j))))
+put-block-requires : tie.Need-put-block-requires Inv-loop μ-loop
+put-block-requires c κs =
+    let turn = c .before .before in
+    let loop = turn .before .loop in
+    let pre = c .before .before .before .before .before .before .before .before .before .pre in
+    let size = ap (_^_ 2) (pre .3) in (
+      pre .0,
+      pre .1,
+      pre .2,
+      omega (arith, pre .3),
+      from-start (pre .5 .number (loop .j) (listed turn)) (omega (arith, pre .3)),
+      omega (arith, placed turn .0, size, loop .inv .2, row-room _ (loop .j) _ _ (listed turn) (pre .6)),
+      omega (arith, loop .inv .2, pre .7),
+    )
 
-copy-row-requires : tie.Need-copy-row-requires Inv-loop μ-loop
-copy-row-requires c κs =
-    let loop = c .before .before .before .before in
-    let called = loop .before .before .before in
-    let start = called .before .before .before .before .before .before in
-    let a = start .args in
-    let d : Drawing = record { contacts = a .n; outputs = a .outputs .now; nodes = a .nodes .now } in
-    let row = output-row d (a .words) (length (a .values .now)) (start .pre .3) (start .pre .0) (loop .loop .j) (c .before .before .before .loop-test .taken) in
-    (omega (arith, loop .loop .inv .1, start .pre .0 .words-most, start .pre .1, start .pre .2), omega (arith, row, called .put-rows .kept .1 .1 .1 .0))
+mul-starts : tie.Need-mul-starts Inv-loop μ-loop
+mul-starts c = omega (arith, placed (c .before .before .before .before .before) .1, placed (c .before .before .before .before .before) .0)
+
+mul-starts-2 : tie.Need-mul-starts-2 Inv-loop μ-loop
+mul-starts-2 c = omega (arith, few (c .before .before .before .before .before))
+
+slice-write-starts : tie.Need-slice-write-starts Inv-loop μ-loop
+slice-write-starts c =
+    let turn = c .before .before .before .before .before in
+    omega (arith, few turn, turn .before .loop .inv .3, c .before .before .before .before .before .before .before .before .before .before .before .before .pre .8)
 
 add-j : tie.Need-add-j Inv-loop μ-loop
 add-j c = search needs
@@ -58,28 +77,29 @@ loop-less c = search needs
 
 loop-again : tie.Need-loop-again Inv-loop μ-loop
 loop-again c =
-    let called = c .before .before in
-    let loop = called .before .before .before .before .before in
-    let start = loop .before .before .before .before .before .before .before .before .before in (
+    let turn = c .before .before .before .before .before in
+    let loop = turn .before .loop in
+    let put = c .before .before .put-block in
+    let pre = c .before .before .before .before .before .before .before .before .before .before .before .before .pre in (
+      loop .inv .0,
       omega arith,
-      called .copy-row .kept .0 ∙ loop .loop .inv .1,
-      one-copied _ (loop .loop .j) _ _ (loop .loop .truths) _ (start .pre .0 .words-most) (called .copy-row .ensures) (loop .loop .inv .2),
+      put .kept .1 .1 .1 .1 .1 .0 ∙ loop .inv .2,
+      simp length-set (loop .inv .3),
+      one-put _ (loop .j) _ _ (loop .truths) _ (loop .starts) _ _ _ (pre .3) (placed turn .0) refl (omega (arith, few turn, loop .inv .3, pre .8))
+          (put .ensures) (loop .inv .4),
     )
 
 same-length : tie.Need-same-length Inv-loop μ-loop
-same-length c = c .before .before .before .before .put-rows .kept .1 .1 .1 .0
+same-length c = c .before .loop .inv .2
 
 same-length-2 : tie.Need-same-length-2 Inv-loop μ-loop
-same-length-2 c = c .before .loop .inv .1
+same-length-2 c = c .before .loop .inv .3
 
 returns : tie.Need-returns Inv-loop μ-loop
 returns c =
-    let loop = c .before in
-    let called = loop .before .before .before in
-    let start = called .before .before .before .before .before .before in
-    let a = start .args in
-    let d : Drawing = record { contacts = a .n; outputs = a .outputs .now; nodes = a .nodes .now } in
-    all-copied d (a .words) _ (loop .loop .j) _ (loop .loop .truths) (start .pre .3) (start .pre .0) (called .put-rows .ensures) (c .loop-test .left) (loop .loop .inv .2)
+    let loop = c .before .loop in
+    let end : loop .j ≡ length (c .before .before .before .before .before .before .before .args .outputs .now) = omega (arith, loop .inv .0, loop .inv .1, c .loop-test .left) in
+    rw (← end) (loop .inv .4)
 
 pub put-outputs-spec : {M : Type 1} → statement M
 put-outputs-spec =
@@ -87,13 +107,14 @@ put-outputs-spec =
     (tie.spec
     Inv-loop
     μ-loop
-    put-rows-requires
     loop-holds
-    mul-copy-row
-    shared-slice-read-copy-row
-    cast-copy-row
-    mul-copy-row-2
-    copy-row-requires
+    shl-to
+    shared-slice-read-put-block
+    cast-put-block
+    put-block-requires
+    mul-starts
+    mul-starts-2
+    slice-write-starts
     add-j
     loop-less
     loop-again
