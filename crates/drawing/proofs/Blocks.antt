@@ -59,7 +59,7 @@ module _ (n : ℕ) (nodes : List ℕ) (v to : ℕ) (before : List ℕ) where
         others = λ i h. g .others i (⊎-elim (λ m. inl m) (λ m. inr (omega arith)) h);
       }
 
-  pub block-halves : (half level u t middle : ℕ) (mid after : List ℕ) → level + suc half ≡ n - 6 → middle ≡ to + 2 ^ half →
+  block-halves : (half level u t middle : ℕ) (mid after : List ℕ) → level + suc half ≡ n - 6 → middle ≡ to + 2 ^ half →
       Half n nodes v level false u → Half n nodes v level true t → Block n half nodes u to before mid →
       Block n half nodes t middle mid after → Block n (suc half) nodes v to before after
   block-halves half level u t middle mid after c m first second b d =
@@ -98,8 +98,8 @@ module _ (n : ℕ) (nodes : List ℕ) (v to : ℕ) (before : List ℕ) where
                 ∙ second .same (w + 2 ^ half + j) (second-closed w half j whole inside (n - 1 - level) place) .values k g;
           })
 
-  -- Blocks of fewer contacts, again and again: v has no fixed contact before them.
-  pub block-again : (own left : ℕ) (after last : List ℕ) → own ≤ left → Block n own nodes v to before after →
+  -- A block over fewer contacts, again and again: v has no level before them.
+  block-again : (own left : ℕ) (after last : List ℕ) → own ≤ left → Block n own nodes v to before after →
       Repeated to (2 ^ own) (2 ^ left) after last → Block n left nodes v to before last
   block-again own left after last more b r =
       record {

@@ -14,7 +14,7 @@ pub fn level_of(nodes: &[u8], n: usize, v: usize) -> usize
     nodes[3 * (v - 2)] as usize
 }
 
-// Where a node of this level leads by the level's contact, if that is open or closed: the edge in byte 1 or 2 of the node.
+// Where a node of this level leads where the level's contact is closed, or open: its 1-edge, or its 0-edge.
 pub fn edge_of(nodes: &[u8], n: usize, v: usize, level: usize, closed: bool) -> usize
     requires { ⌜ Ready n (now nodes) × (v < 2 + nodeCount (now nodes)) × Rank n (now nodes) v level × (level + 6 < n) ⌝ }
     ensures { λ r. ⌜ Half n (now (nodes .entry)) v level closed r ⌝ }

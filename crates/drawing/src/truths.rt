@@ -1,4 +1,4 @@
-// The truth tables of a drawing's outputs, 64 values a word.
+// The truth tables of a drawing's outputs, 64 values a word: within a word the last six contacts vary, and those before them are fixed.
 use crate::paths;
 ghost use mathlib.Core.Path.{_≡_};
 ghost use Prim.Native.Nat.{_+_, _*_, _-_, _^_, _≤_, _<_};
@@ -6,7 +6,7 @@ ghost use lib.ListN.{length};
 ghost use Rattle.drawing.specs.Drawing.{nodeCount};
 ghost use Rattle.drawing.specs.Inner.Words.{Ready, WordsFrom, From, Filled, Repeated, Block, Numbers, Tabulated};
 
-// Writes one word from a place to another.
+// Writes a word to every place from one up to another.
 fn fill(truths: &mut [u64], from: usize, to: usize, word: u64)
     requires { ⌜ (from ≤ to) × (to ≤ length (now truths)) ⌝ }
     ensures { λ _. ⌜ Filled from to word (now (truths .entry)) (now (truths .exit)) ⌝ }
@@ -16,7 +16,7 @@ fn fill(truths: &mut [u64], from: usize, to: usize, word: u64)
     }
 }
 
-// Repeats the first words from a place on, so many, up to another place.
+// Repeats the words from a place on, so many, up to another place.
 fn repeat(truths: &mut [u64], to: usize, size: usize, end: usize)
     requires { ⌜ (1 ≤ size) × (size ≤ end) × (to + end ≤ length (now truths)) × (length (now truths) ≤ 512) ⌝ }
     ensures { λ _. ⌜ Repeated to size end (now (truths .entry)) (now (truths .exit)) ⌝ }

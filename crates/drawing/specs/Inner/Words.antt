@@ -63,7 +63,7 @@ pub record From (nodes : List ℕ) (l v : ℕ) : Type 0 where
 pub record Same (n : ℕ) (nodes : List ℕ) (w v u : ℕ) : Type 0 where
   pub values : (k : ℕ) → k < 64 → lead nodes (inputAt n (64 * w + k)) n u ≡ lead nodes (inputAt n (64 * w + k)) n v
 
--- What a number's level says: if the contact of that level is fixed, it is a node's; else no fixed contact leads on from the number.
+-- What a number's level says: if the contact of that level is fixed, the number is a node; else no fixed contact leads on from it.
 pub record Rank (n : ℕ) (nodes : List ℕ) (v level : ℕ) : Type 0 where
   pub early : level + 6 < n → (2 ≤ v) × (levelIn nodes (v - 2) ≡ level)
   pub late : n ≤ level + 6 → From nodes (n - 6) v
@@ -73,12 +73,12 @@ pub record Half (n : ℕ) (nodes : List ℕ) (v level : ℕ) (b : Bool) (u : ℕ
   pub beyond : From nodes (level + 1) u
   pub same : (w : ℕ) → inputOf (64 * w) (n - 1 - level) ≡ b → Same n nodes w v u
 
--- One word from a place to another; the rest stays.
+-- One word at every place from one up to another; the rest stays.
 pub record Filled (from to word : ℕ) (before after : List ℕ) : Type 0 where
   pub word-is : (i : ℕ) → from ≤ i → i < to → getD after i 0 ≡ word
   pub others : (i : ℕ) → (i < from) ⊎ (to ≤ i) → getD after i 0 ≡ getD before i 0
 
--- The first words from a place on, so many, again and again up to another place; the rest stays.
+-- The words from a place on, so many, again and again, up to another place; the rest stays.
 pub record Repeated (to size end : ℕ) (before after : List ℕ) : Type 0 where
   pub same : (i : ℕ) → i < end → getD after (to + i) 0 ≡ getD before (to + i % size) 0
   pub others : (i : ℕ) → (i < to) ⊎ (to + end ≤ i) → getD after i 0 ≡ getD before i 0
