@@ -1,5 +1,5 @@
 -- A block of a number's truth table: one word, or the blocks of its edges, repeated.
-use Prim.Native.Nat.{ℕ, zero, suc, _+_, _*_, _-_, _/_, _%_, _^_, _≤_, _<_}
+use Prim.Native.Nat.{ℕ, suc, _+_, _*_, _-_, _/_, _%_, _^_, _≤_, _<_}
 use native.Mathlib.Decide.{ℕ-discrete, decLt}
 use native.Mathlib.Nat.{mod-lt, mod-eq-of-lt, div-add-mod', add-mod-right, add-mul-mod-self-right, zero-mod, suc-mul}
 use native.Mathlib.Omega.{arith}
@@ -16,14 +16,8 @@ use Rattle.diagram.specs.Diagram.{inputOf}
 use Rattle.bits.specs.Inner.Bits.{bitOf}
 use Rattle.canonical.proofs.Agreement.{bits-of}
 use Rattle.canonical.proofs.Tabulated.{multiple, half-whole, next-whole}
-use Rattle.drawing.specs.Inner.Words.{Holds, WordIs, WordsFrom, From, Half, Filled, Repeated, Block}
-
--- A number that fixed contacts do not lead on from has its word.
-word-of : (n : ℕ) (nodes values : List ℕ) (l u : ℕ) → WordsFrom n nodes values l → From nodes l u → WordIs n nodes values u
-word-of n nodes values l zero r f = r .zero
-word-of n nodes values l (suc zero) r f = r .one
-word-of n nodes values l (suc (suc i)) r f =
-    rw (let e : suc (suc i) ≡ 2 + i = omega arith in e) (r .above i (omega (arith, f .number)) (f .level i (omega arith)))
+use Rattle.drawing.specs.Inner.Words.{Holds, WordsFrom, From, Half, Filled, Repeated, Block}
+use Rattle.drawing.proofs.Words.{word-of}
 
 -- The two halves of a block: the fixed contact before the last `half` is open in the first, closed in the second.
 module _ (w half i : ℕ) (whole : w % 2 ^ suc half ≡ 0) (h : i < 2 ^ half) where

@@ -9,8 +9,7 @@ use Rattle.bits.proofs.Rails.{high-same}
 use Rattle.canonical.specs.Inner.Blocks.{inputAt}
 use Rattle.drawing.specs.Drawing.{nodeCount, levelIn, edgeIn, lead}
 use Rattle.drawing.specs.Inner.Words.{Ready, From, Rank, Half}
-use Rattle.drawing.proofs.Leads.{edge-above, listed-above, lead-edge}
-use Rattle.drawing.proofs.Words.{edge-number}
+use Rattle.drawing.proofs.Words.{edge-from, edge-value}
 
 pub from-start : {nodes : List ℕ} {v l : ℕ} → v < 2 + nodeCount nodes → l ≡ 0 → From nodes l v
 from-start h e = record { number = h; level = λ i q. omega arith }
@@ -44,21 +43,13 @@ module _ (n : ℕ) (nodes : List ℕ) (ready : Ready n nodes) (v level : ℕ) (h
 
   pub half-edge : Half n nodes v level b (edgeIn nodes i b)
   half-edge =
+      let place : n - 1 - level ≡ n - suc (levelIn nodes i) = omega (arith, own) in
+      let number : 2 + i ≡ v = omega (arith, rank .early early .0) in
       record {
-        beyond = record {
-          number = edge-number n nodes ready i b listed;
-          level = λ j q.
-              let over = rw (let s : edgeIn nodes i b ≡ suc (suc j) = omega arith in s) at (edge-above n nodes (ready .sound) i b listed) in
-              omega (arith, listed-above n nodes (ready .sound) (levelIn nodes i) j over .1, own);
-        };
+        beyond = rw own at (edge-from n nodes ready i b listed);
         same = λ w e. record {
-          values = λ k g.
-              let x = inputAt n (64 * w + k) in
-              let place : n - 1 - level ≡ n - suc (levelIn nodes i) = omega (arith, own) in
-              let taken : b ≡ x (levelIn nodes i) =
-              sym e ∙ sym (high-same (64 * w) k (omega arith) g (n - 1 - level) (omega arith)) ∙ ap (inputOf (64 * w + k)) place in
-              ap (λ (c : Bool). lead nodes x n (edgeIn nodes i c)) taken
-              ∙ sym (lead-edge n nodes (ready .sound) x i (ready .contacts .0) listed)
-              ∙ ap (lead nodes x n) (omega (arith, rank .early early .0));
+          values = λ k g. edge-value n nodes ready (inputAt n (64 * w + k)) i b listed
+              (sym e ∙ sym (high-same (64 * w) k (omega arith) g (n - 1 - level) (omega arith)) ∙ ap (inputOf (64 * w + k)) place)
+              ∙ ap (lead nodes (inputAt n (64 * w + k)) n) number;
         };
       }

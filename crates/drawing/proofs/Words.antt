@@ -9,13 +9,13 @@ use mathlib.Core.List.{List}
 use lib.Bits.{bitAnd, bitOr, bitXor}
 use lib.ListN.{length, getD, set}
 use lib.Seq.{getD-set-same, getD-set-other}
-use Rattle.diagram.specs.Diagram.{bit, inputOf}
+use Rattle.diagram.specs.Diagram.{Input, bit, inputOf}
 use Rattle.bits.specs.Inner.Bits.{bitOf}
 use Rattle.bits.proofs.Rails.{low-same}
 use Rattle.bits.proofs.Bits.{ones, bit-zero, bit-ones, bit-and, bit-or, bit-flip}
 use Rattle.canonical.specs.Inner.Blocks.{inputAt}
 use Rattle.drawing.specs.Drawing.{nodeCount, levelIn, edgeIn, isAbove, lead}
-use Rattle.drawing.specs.Inner.Words.{Ready, Holds, Closed, WordIs, WordsFrom, LevelTo}
+use Rattle.drawing.specs.Inner.Words.{Ready, Holds, Closed, WordIs, WordsFrom, LevelTo, From}
 use Rattle.drawing.proofs.Leads.{stays, level-below, edge-above, listed-above, lead-edge}
 
 -- One word where a contact is closed, another where it is open.
@@ -39,6 +39,13 @@ closed-by {place} pattern =
       bits = λ k h. pattern k h ∙ ap (λ (i : ℕ). bit (inputOf i place)) (let e : 0 + k ≡ k = omega arith in e);
     }
 
+-- The word of a number of level l or above.
+pub word-of : (n : ℕ) (nodes values : List ℕ) (l u : ℕ) → WordsFrom n nodes values l → From nodes l u → WordIs n nodes values u
+word-of n nodes values l zero r f = r .zero
+word-of n nodes values l (suc zero) r f = r .one
+word-of n nodes values l (suc (suc i)) r f =
+    rw (let e : suc (suc i) ≡ 2 + i = omega arith in e) (r .above i (omega (arith, f .number)) (f .level i (omega arith)))
+
 pub words-as : {n : ℕ} {nodes values : List ℕ} {l m : ℕ} → m ≡ l → WordsFrom n nodes values l → WordsFrom n nodes values m
 words-as e r = rw e r
 
@@ -51,21 +58,27 @@ module _ (n : ℕ) (nodes : List ℕ) (ready : Ready n nodes) where
         above = λ i h g. absurd (omega (arith, level-below n nodes (ready .sound) i h));
       }
 
-  -- A number above a level is one that the drawing has.
-  pub above-number : (l v : ℕ) → isAbove nodes l v ≡ true → v < 2 + nodeCount nodes
-  above-number l zero e = omega arith
-  above-number l (suc zero) e = omega arith
-  above-number l (suc (suc i)) e = omega (arith, listed-above n nodes (ready .sound) l i e .0)
+  -- A number above a level is a constant, or a listed node of the next level or above; so are a node's edges.
+  above-from : (l v : ℕ) → isAbove nodes l v ≡ true → From nodes (l + 1) v
+  above-from l zero e = record { number = omega arith; level = λ i q. absurd (omega arith) }
+  above-from l (suc zero) e = record { number = omega arith; level = λ i q. absurd (omega arith) }
+  above-from l (suc (suc j)) e =
+      let a = listed-above n nodes (ready .sound) l j e in
+      record {
+        number = omega (arith, a .0);
+        level = λ i q. let same : j ≡ i = omega arith in omega (arith, a .1, ap (levelIn nodes) same);
+      }
 
-  pub edge-number : (i : ℕ) (b : Bool) → i < nodeCount nodes → edgeIn nodes i b < 2 + nodeCount nodes
-  edge-number i b h = above-number (levelIn nodes i) (edgeIn nodes i b) (edge-above n nodes (ready .sound) i b h)
+  pub edge-from : (i : ℕ) (b : Bool) → i < nodeCount nodes → From nodes (levelIn nodes i + 1) (edgeIn nodes i b)
+  edge-from i b h = above-from (levelIn nodes i) (edgeIn nodes i b) (edge-above n nodes (ready .sound) i b h)
 
-  word-above : (values : List ℕ) (l v : ℕ) → WordsFrom n nodes values (l + 1) → isAbove nodes l v ≡ true → WordIs n nodes values v
-  word-above values l zero r e = r .zero
-  word-above values l (suc zero) r e = r .one
-  word-above values l (suc (suc i)) r e =
-      let a = listed-above n nodes (ready .sound) l i e in
-      rw (let e : suc (suc i) ≡ 2 + i = omega arith in e) (r .above i (a .0) (omega (arith, a .1)))
+  -- A node has the value of the edge that its contact takes.
+  pub edge-value : (x : Input) (i : ℕ) (b : Bool) → i < nodeCount nodes → b ≡ x (levelIn nodes i) →
+      lead nodes x n (edgeIn nodes i b) ≡ lead nodes x n (2 + i)
+  edge-value x i b h e =
+      ap (λ (c : Bool). lead nodes x n (edgeIn nodes i c)) e
+      ∙ sym (lead-edge n nodes (ready .sound) x i (ready .contacts .0) h)
+      ∙ ap (lead nodes x n) (omega arith)
 
   -- The word of a node of the last six levels follows those of its edges.
   module _ (i l : ℕ) (values : List ℕ) (word : ℕ) (h : i < nodeCount nodes) (own : levelIn nodes i ≡ l) (late : n ≤ l + 6)
@@ -75,23 +88,17 @@ module _ (n : ℕ) (nodes : List ℕ) (ready : Ready n nodes) where
     edge-word : (w k : ℕ) → k < 64 → (b : Bool) →
         bitOf k (cond b (getD values (edgeIn nodes i true) 0) (getD values (edgeIn nodes i false) 0))
         ≡ lead nodes (inputAt n (64 * w + k)) n (edgeIn nodes i b)
-    edge-word w k g true = word-above values l (edgeIn nodes i true) r (rw own at (edge-above n nodes (ready .sound) i true h)) w .bits k g
-    edge-word w k g false = word-above values l (edgeIn nodes i false) r (rw own at (edge-above n nodes (ready .sound) i false h)) w .bits k g
+    edge-word w k g true = word-of n nodes values (l + 1) _ r (rw own at (edge-from i true h)) w .bits k g
+    edge-word w k g false = word-of n nodes values (l + 1) _ r (rw own at (edge-from i false h)) w .bits k g
 
     pub new-word : (w : ℕ) → Holds n nodes (2 + i) w word
-    new-word w = record { bits = λ k g. follows k g ∙ edge-word w k g (inputOf k (n - 1 - l)) ∙ at k g }
-      where
-        at : (k : ℕ) → k < 64 →
-            lead nodes (inputAt n (64 * w + k)) n (edgeIn nodes i (inputOf k (n - 1 - l))) ≡ lead nodes (inputAt n (64 * w + k)) n (2 + i)
-        at k g =
-            let x = inputAt n (64 * w + k) in
-            let place : n - 1 - l ≡ n - suc (levelIn nodes i) = omega arith in
-            let below = level-below n nodes (ready .sound) i h in
-            let same : inputOf k (n - 1 - l) ≡ x (levelIn nodes i) =
-            sym (low-same (64 * w) k (omega arith) g (n - 1 - l) (omega arith)) ∙ ap (inputOf (64 * w + k)) place in
-            ap (λ (b : Bool). lead nodes x n (edgeIn nodes i b)) same
-            ∙ sym (lead-edge n nodes (ready .sound) x i (ready .contacts .0) h)
-            ∙ ap (lead nodes x n) (omega arith)
+    new-word w =
+        let place : n - 1 - l ≡ n - suc (levelIn nodes i) = omega arith in
+        let below = level-below n nodes (ready .sound) i h in
+        record {
+          bits = λ k g. follows k g ∙ edge-word w k g (inputOf k (n - 1 - l)) ∙ edge-value (inputAt n (64 * w + k)) i _ h
+              (sym (low-same (64 * w) k (omega arith) g (n - 1 - l) (omega arith)) ∙ ap (inputOf (64 * w + k)) place);
+        }
 
   -- Where the word of node i is written, the others stay.
   kept-word : (i : ℕ) (values : List ℕ) (word v : ℕ) → (v ≡ 2 + i → ⊥) → WordIs n nodes values v → WordIs n nodes (set values (2 + i) word) v

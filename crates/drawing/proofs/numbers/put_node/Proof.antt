@@ -4,7 +4,7 @@ use native.Mathlib.Omega.{arith}
 use Prim.Native.Nat.{_+_, _*_, _-_}
 use mathlib.Core.Bool.{true, false}
 use Rattle.diagram.specs.Diagram.{inputOf}
-use Rattle.drawing.proofs.Words.{edge-number, new-word, level-other, level-own}
+use Rattle.drawing.proofs.Words.{edge-from, new-word, level-other, level-own}
 use Rattle.drawing.proofs.numbers.put_node.Statement.{statement}
 use Rattle.drawing.proofs.numbers.put_node.Tie as tie
 
@@ -40,7 +40,7 @@ mul-zero-2 c = omega (arith, c .shared-slice-known3 .given (3 * c .before .befor
 slice-read-zero : tie.Need-slice-read-zero
 slice-read-zero c =
     let start = c .before .before .before .before .before .before in
-    omega (arith, edge-number _ _ (start .pre .0) (start .args .i) false (start .pre .5), start .pre .1)
+    omega (arith, edge-from _ _ (start .pre .0) (start .args .i) false (start .pre .5) .number, start .pre .1)
 
 mul-one : tie.Need-mul-one
 mul-one c = search needs
@@ -60,7 +60,7 @@ mul-one-2 c = omega (arith, c .shared-slice-known4 .given (3 * c .before .before
 slice-read-one : tie.Need-slice-read-one
 slice-read-one c =
     let start = c .before .before .before .before .before .before .before .before in
-    omega (arith, edge-number _ _ (start .pre .0) (start .args .i) true (start .pre .5), start .pre .1)
+    omega (arith, edge-from _ _ (start .pre .0) (start .args .i) true (start .pre .5) .number, start .pre .1)
 
 mix-requires : tie.Need-mix-requires
 mix-requires c κs = search needs
