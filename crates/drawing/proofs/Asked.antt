@@ -4,14 +4,14 @@ use native.Mathlib.Omega.{arith}
 use mathlib.Core.Path.{_≡_, refl, sym, ap}
 use mathlib.Core.Bool.{Bool, true, false, _&&_, cond}
 use mathlib.Core.List.{List}
-use lib.Dec.{eqb}
-use lib.ListN.{length, drop}
-use Rattle.fields.specs.Fields.{Item, Fields, fieldsOf, valueIn}
+use lib.Dec.{leb, eqb}
+use lib.ListN.{length}
+use Rattle.fields.specs.Fields.{Item, Fields, fieldsOf, itemIn, valueIn}
 use Rattle.fields.specs.Refusals.{framingNumber}
 use Rattle.fields.proofs.Bounded.{and-left, and-right}
-use Rattle.files.specs.Header.{contactsIn, contactsNumber, contactsOf, hasParts, areTwo}
+use Rattle.files.specs.Header.{contactsIn, contactsNumber, contactsOf, hasParts}
 use Rattle.files.proofs.Heads.{counts}
-use Rattle.files.proofs.WholeParts.{two-parts}
+use Rattle.files.proofs.WholeParts.{has-parts}
 use Rattle.functions.proofs.Trees.{Values}
 use Rattle.drawing.specs.declared.form.Form.the-variants.{Formed, Unformed}
 use Rattle.drawing.specs.Drawing.{Drawing, drawingOf, drawingIn, isDrawing, formOf, formNumber, drawnAt}
@@ -24,7 +24,9 @@ abbrev isFormed : Fields → Bool
 isFormed fs =
     eqb (framingNumber (fs .framing)) 0
     && eqb (contactsNumber (contactsIn (fs .items))) 0
-    && areTwo (hasParts 2 1 1 8) (hasParts 7 3 0 200) (drop 1 (fs .items))
+    && hasParts 2 1 1 8 (itemIn (fs .items) 1)
+    && hasParts 7 3 0 200 (itemIn (fs .items) 2)
+    && leb (length (fs .items)) 3
     && isDrawing (drawingOf (fs .items))
 
 limited-fields : (fs : Fields) → formNumber (formOf fs) ≡ 0 → Limited (drawingOf (fs .items))
@@ -38,7 +40,13 @@ limited-fields fs e = go (isFormed fs) refl e
     b = eqb (contactsNumber (contactsIn (fs .items))) 0
 
     c : Bool
-    c = areTwo (hasParts 2 1 1 8) (hasParts 7 3 0 200) (drop 1 (fs .items))
+    c = hasParts 2 1 1 8 (itemIn (fs .items) 1)
+
+    o : Bool
+    o = hasParts 7 3 0 200 (itemIn (fs .items) 2)
+
+    k : Bool
+    k = leb (length (fs .items)) 3
 
     s : Bool
     s = isDrawing (drawingOf (fs .items))
@@ -46,15 +54,17 @@ limited-fields fs e = go (isFormed fs) refl e
     go : (t : Bool) → isFormed fs ≡ t → formNumber (cond t (Formed (contactsOf (fs .items))) Unformed) ≡ 0 →
         Limited (drawingOf (fs .items))
     go true t e =
-        let l = and-left (a && b && c) s t in
-        let (n, h) = counts (fs .items) (and-right a b (and-left (a && b) c l)) in
+        let parted = and-left (a && b && c && o) k (and-left (a && b && c && o && k) s t) in
+        let first = and-left (a && b && c) o parted in
+        let (n, h) = counts (fs .items) (and-right a b (and-left (a && b) c first)) in
         let is : contactsOf (fs .items) ≡ n = ap (λ (is : List Item). contactsOf is) (h .split) in
-        let p = two-parts 2 1 1 8 7 3 0 200 (fs .items) (and-right (a && b) c l) in
+        let (_, outputs) = has-parts 2 1 1 8 (itemIn (fs .items) 1) (and-right (a && b) c first) in
+        let (_, nodes) = has-parts 7 3 0 200 (itemIn (fs .items) 2) (and-right (a && b && c) o parted) in
         record {
           contacts = (omega (arith, h .low), omega (arith, h .high));
-          outputs = (omega (arith, p .1 .least), omega (arith, p .1 .most));
-          nodes = p .2 .most;
-          sound = and-right (a && b && c) s t;
+          outputs = (omega (arith, outputs .least), omega (arith, outputs .most));
+          nodes = nodes .most;
+          sound = and-right (a && b && c && o && k) s t;
         }
     go false t e = absurd (omega arith)
 

@@ -1,17 +1,16 @@
 -- The file of a diagram's drawing reads back as that drawing, and gets a yes to question 16.
 use Prim.Native.Nat.{ℕ, zero, suc, _+_, _*_, _≤_}
 use native.Mathlib.Omega.{arith}
-use mathlib.Core.Path.{_≡_, refl, sym, ap, ap₂, _∙_}
-use mathlib.Core.Bool.{true, _&&_}
+use mathlib.Core.Path.{_≡_, refl, sym, ap, _∙_}
+use mathlib.Core.Bool.{true}
 use mathlib.Core.List.{List, [], _∷_}
 use borrow.Author.Tests.{le-leb}
-use lib.ListN.{drop}
 use Rattle.fields.specs.declared.Framing.the-variants.{Whole}
 use Rattle.fields.specs.Fields.{Item, Fields, fieldsOf}
 use Rattle.fields.proofs.Encoding.{of-encoded}
 use Rattle.fields.proofs.Listed.{length-listed}
 use Rattle.files.specs.declared.header.Contacts.the-variants.{Counted}
-use Rattle.files.specs.Header.{contactsIn, hasParts, areTwo}
+use Rattle.files.specs.Header.{contactsIn, hasParts}
 use Rattle.files.proofs.Heads.{field}
 use Rattle.files.proofs.WholeParts.{whole-parts}
 use Rattle.diagram.specs.declared.Diagram.{Diagram}
@@ -43,17 +42,19 @@ module _ (d : Diagram) (s : Sized d) where
   unfolding contactsIn
   counted = simp (le-leb _ _ (s .contacts .0), le-leb _ _ (s .contacts .1))
 
-  two-follow : areTwo (hasParts 2 1 1 8) (hasParts 7 3 0 200) (drop 1 (itemsOf d)) ≡ true
-  unfolding areTwo
-  two-follow =
+  outputs-whole : hasParts 2 1 1 8 (field 2 (redrawn d .outputs)) ≡ true
+  outputs-whole =
       let m = length-listed (λ j. numberOf d 0 (root d j)) (d .outputs) 0 in
       let most = s .outputs in
+      whole-parts 2 1 1 8 (redrawn d .outputs) (omega arith) (omega arith) (omega arith)
+
+  nodes-listed : hasParts 7 3 0 200 (field 7 (nodesOf d)) ≡ true
+  nodes-listed =
       let count = node-count d in
       let bound = first-bounded (d .contacts) (omega arith) in
-      ap₂ _&&_ (whole-parts 2 1 1 8 (redrawn d .outputs) (omega arith) (omega arith) (omega arith))
-      (whole-parts 7 3 0 200 (nodesOf d) (omega (arith, nodes-whole d)) (omega arith) (omega (arith, s .contacts)))
+      whole-parts 7 3 0 200 (nodesOf d) (omega (arith, nodes-whole d)) (omega arith) (omega (arith, s .contacts))
 
   pub file-formed : inRange d ≡ true → WellFormed (drawingFor d)
   file-formed ranged =
       ap (λ (fs : Fields). formNumber (formOf fs)) (file-fields d)
-      ∙ ap formNumber (sym (formed (record { items = itemsOf d; framing = Whole }) refl counted two-follow (redrawn-sound d ranged)))
+      ∙ ap formNumber (sym (formed (record { items = itemsOf d; framing = Whole }) refl counted outputs-whole nodes-listed refl (redrawn-sound d ranged)))

@@ -5,13 +5,13 @@ use mathlib.Core.Path.{_≡_, refl, sym, ap, _∙_}
 use mathlib.Core.Bool.{Bool, true, false, and-false}
 use mathlib.Core.List.{List}
 use borrow.Author.Tests.{lt-ltb, le-ltb}
-use lib.Dec.{ltb}
-use lib.ListN.{length, getD, drop}
+use lib.Dec.{ltb, leb}
+use lib.ListN.{length, getD}
 use Rattle.fields.specs.declared.Framing.the-variants.{Whole, Broken}
 use Rattle.fields.specs.Bounded.{all}
-use Rattle.fields.specs.Fields.{Item, Fields, valueIn}
+use Rattle.fields.specs.Fields.{Item, Fields, itemIn, valueIn}
 use Rattle.files.specs.declared.header.Contacts.the-variants.{Counted, Uncounted}
-use Rattle.files.specs.Header.{contactsOf, contactsIn, hasParts, areTwo}
+use Rattle.files.specs.Header.{contactsOf, contactsIn, hasParts}
 use Rattle.files.proofs.Heads.{counted}
 use Rattle.drawing.specs.declared.form.Form.the-variants.{Formed, Unformed}
 use Rattle.drawing.specs.Drawing.{Drawing, drawingOf, nodeCount, levelIn, edgeIn, isNumber, isAbove, isNode, isDrawing, formOf}
@@ -74,19 +74,27 @@ module _ (fs : Fields) where
   unfolding formOf
   uncounted e = simp (e, and-false)
 
-  pub misparted : areTwo (hasParts 2 1 1 8) (hasParts 7 3 0 200) (drop 1 (fs .items)) ≡ false → Unformed ≡ formOf fs
+  pub first-misparted : hasParts 2 1 1 8 (itemIn (fs .items) 1) ≡ false → Unformed ≡ formOf fs
   unfolding formOf
-  misparted e = simp (e, and-false)
+  first-misparted e = simp (e, and-false)
+
+  pub second-misparted : hasParts 7 3 0 200 (itemIn (fs .items) 2) ≡ false → Unformed ≡ formOf fs
+  unfolding formOf
+  second-misparted e = simp (e, and-false)
+
+  pub too-many : leb (length (fs .items)) 3 ≡ false → Unformed ≡ formOf fs
+  unfolding formOf
+  too-many e = simp (e, and-false)
 
   pub unsound : isDrawing (drawingOf (fs .items)) ≡ false → Unformed ≡ formOf fs
   unfolding formOf
   unsound e = simp (e, and-false)
 
   pub formed : {n : ℕ} → fs .framing ≡ Whole → contactsIn (fs .items) ≡ Counted n →
-      areTwo (hasParts 2 1 1 8) (hasParts 7 3 0 200) (drop 1 (fs .items)) ≡ true → isDrawing (drawingOf (fs .items)) ≡ true →
-      Formed n ≡ formOf fs
+      hasParts 2 1 1 8 (itemIn (fs .items) 1) ≡ true → hasParts 7 3 0 200 (itemIn (fs .items) 2) ≡ true →
+      leb (length (fs .items)) 3 ≡ true → isDrawing (drawingOf (fs .items)) ≡ true → Formed n ≡ formOf fs
   unfolding formOf
-  formed {n} w e p s = ap Formed (sym (contacts-are (fs .items) e)) ∙ simp (w, e, p, s)
+  formed w e p q m s = ap Formed (sym (contacts-are (fs .items) e)) ∙ simp (w, e, p, q, m, s)
 
 -- The nodes, then the outputs.
 module _ (d : Drawing) where

@@ -2,12 +2,12 @@
 use Prim.Native.Nat.{ℕ, zero, suc, _+_, _*_, _/_}
 use mathlib.Core.Bool.{Bool, true, false, _&&_, cond}
 use mathlib.Core.List.{List}
-use lib.Dec.{ltb, eqb}
-use lib.ListN.{length, getD, drop}
+use lib.Dec.{ltb, leb, eqb}
+use lib.ListN.{length, getD}
 use Rattle.fields.specs.Bounded.{all}
-use Rattle.fields.specs.Fields.{Item, Fields, fieldsOf, valueIn}
+use Rattle.fields.specs.Fields.{Item, Fields, fieldsOf, itemIn, valueIn}
 use Rattle.fields.specs.Refusals.{framingNumber}
-use Rattle.files.specs.Header.{contactsIn, contactsNumber, contactsOf, hasParts, areTwo}
+use Rattle.files.specs.Header.{contactsIn, contactsNumber, contactsOf, hasParts}
 use Rattle.diagram.specs.Diagram.{Input}
 use Rattle.drawing.specs.declared.form.Form.{Form}
 use Rattle.drawing.specs.declared.form.Form.the-variants.{Formed, Unformed}
@@ -63,7 +63,9 @@ formOf fs =
     cond
     (eqb (framingNumber (fs .framing)) 0
     && eqb (contactsNumber (contactsIn (fs .items))) 0
-    && areTwo (hasParts 2 1 1 8) (hasParts 7 3 0 200) (drop 1 (fs .items))
+    && hasParts 2 1 1 8 (itemIn (fs .items) 1)
+    && hasParts 7 3 0 200 (itemIn (fs .items) 2)
+    && leb (length (fs .items)) 3
     && isDrawing (drawingOf (fs .items)))
     (Formed (contactsOf (fs .items)))
     Unformed

@@ -1,7 +1,6 @@
 // Question 16: the form of a drawing.
 use fields::Framing;
 use files::Contacts;
-use files::Parts;
 ghost use mathlib.Core.Path.{_≡_};
 ghost use Prim.Native.Nat.{_/_, _<_};
 ghost use lib.ListN.{length, getD};
@@ -90,22 +89,18 @@ pub fn ask_form(file: &[u8]) -> Form
     let Contacts::Counted(n) = files::count_contacts(file) else {
         return Form::Unformed;
     };
-    let outputs = Parts {
-        tag: 2,
-        size: 1,
-        least: 1,
-        most: 8,
-    };
-    let nodes = Parts {
-        tag: 7,
-        size: 3,
-        least: 0,
-        most: 200,
-    };
-    if !files::two_follow(file, outputs, nodes) {
+    let outputs = files::field_at(file, 1);
+    if !files::has_parts(file, outputs, 2, 1, 1, 8) {
         return Form::Unformed;
     }
-    if !is_sound(n, reader::nth(file, 1), reader::nth(file, 2)) {
+    let nodes = files::field_at(file, 2);
+    if !files::has_parts(file, nodes, 7, 3, 0, 200) {
+        return Form::Unformed;
+    }
+    if !files::at_most(file, 3) {
+        return Form::Unformed;
+    }
+    if !is_sound(n, fields::value(file, outputs), fields::value(file, nodes)) {
         return Form::Unformed;
     }
     Form::Formed(n)

@@ -1,7 +1,7 @@
 -- Files as rows of fields: one tag byte, two length bytes (high byte first), the value.
 use Prim.Native.Nat.{ℕ, zero, suc, _+_, _*_, _/_, _%_, _<_}
 use mathlib.Core.Bool.{cond}
-use mathlib.Core.List.{List, [], _∷_, _++_, map}
+use mathlib.Core.List.{List, [], _∷_, _++_}
 use lib.Dec.{leb}
 use lib.ListN.{length, getD, take, drop}
 use Rattle.fields.specs.declared.Field.{Field}
@@ -72,9 +72,12 @@ fieldsFrom file at = fieldsWithin (suc (length file)) file at
 unfoldable pub fieldsOf : List ℕ → Fields
 fieldsOf file = fieldsFrom file 0
 
--- The value of the field at place k; nothing where there is none.
+-- The field at place k, and its value; where there is none, tag 0 and nothing.
+abbrev pub itemIn : List Item → ℕ → Item
+itemIn is k = getD is k (record { tag = 0; value = [] })
+
 abbrev pub valueIn : List Item → ℕ → List ℕ
-valueIn is k = getD (map (λ (i : Item). i .value) is) k []
+valueIn is k = itemIn is k .value
 
 -- The bytes of a field, and of a row of them.
 abbrev pub fieldBytes : Item → List ℕ

@@ -1,16 +1,17 @@
 -- What the test of a field of whole parts says, and the fields that pass it.
 use borrow.Author.Tests.{leb-true, eqb-true, eq-eqb, le-leb}
-use Prim.Native.Nat.{ℕ, _/_, _%_, _≤_}
+use Prim.Native.Nat.{ℕ, suc, _/_, _%_, _≤_}
 use native.Mathlib.Omega.{arith}
-use mathlib.Core.Path.{_≡_, refl}
+use mathlib.Core.Path.{_≡_, refl, ap, _∙_}
 use mathlib.Core.Bool.{true, _&&_}
-use mathlib.Core.List.{List, [], _∷_}
+use mathlib.Core.List.{List, _∷_}
 use lib.Dec.{leb, eqb}
 use lib.ListN.{length, drop}
-use Rattle.fields.specs.Fields.{Item, valueIn}
+use Rattle.fields.specs.Fields.{Item, itemIn, valueIn}
 use Rattle.fields.specs.Refusals.{between}
 use Rattle.fields.proofs.Bounded.{and-left, and-right}
-use Rattle.files.specs.Header.{hasParts, areTwo}
+use Rattle.fields.proofs.Places.{item-stands}
+use Rattle.files.specs.Header.{hasParts}
 use Rattle.files.proofs.Heads.{field, field-is}
 
 -- So many whole parts of a size.
@@ -40,19 +41,10 @@ pub whole-parts : (tag size low high : ℕ) (v : List ℕ) → length v % size �
     hasParts tag size low high (record { tag = tag; value = v }) ≡ true
 whole-parts tag size low high v w l m = simp (eq-eqb tag tag refl, eq-eqb _ _ w, le-leb _ _ l, le-leb _ _ m)
 
--- Two such fields behind the first.
-module _ (tag size low high tag' size' low' high' : ℕ) where
-  pub two-parts : (is : List Item) → areTwo (hasParts tag size low high) (hasParts tag' size' low' high') (drop 1 is) ≡ true →
-      (drop 1 is ≡ field tag (valueIn is 1) ∷ field tag' (valueIn is 2) ∷ [])
-      × HasParts size low high (valueIn is 1) × HasParts size' low' high' (valueIn is 2)
-  unfolding areTwo
-  two-parts [] e = absurd (let z : _≡_ {A = ℕ} 0 1 = cc in omega arith)
-  two-parts (i ∷ []) e = absurd (let z : _≡_ {A = ℕ} 0 1 = cc in omega arith)
-  two-parts (i ∷ b ∷ []) e = absurd (let z : _≡_ {A = ℕ} 0 1 = cc in omega arith)
-  two-parts (i ∷ b ∷ c ∷ []) e =
-      let p = hasParts tag size low high b in
-      let q = hasParts tag' size' low' high' c in
-      let g = has-parts tag size low high b (and-left p q e) in
-      let h = has-parts tag' size' low' high' c (and-right p q e) in
-      (λ t. g .0 t ∷ h .0 t ∷ [], g .1, h .1)
-  two-parts (i ∷ b ∷ c ∷ d ∷ is) e = absurd (let z : _≡_ {A = ℕ} 0 1 = cc in omega arith)
+-- Such a field at a place, and those behind it.
+pub part-at : (k tag size low high : ℕ) (is : List Item) → 1 ≤ tag → hasParts tag size low high (itemIn is k) ≡ true →
+    (drop k is ≡ field tag (valueIn is k) ∷ drop (suc k) is) × HasParts size low high (valueIn is k)
+part-at k tag size low high is some e =
+    let (i, h) = has-parts tag size low high (itemIn is k) e in
+    let t : itemIn is k .tag ≡ tag = ap (λ (i : Item). i .tag) i in
+    (item-stands is k (omega arith) ∙ ap (λ (j : Item). j ∷ drop (suc k) is) i, h)

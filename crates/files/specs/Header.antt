@@ -1,6 +1,6 @@
 -- The fields of files: the count of contacts, which all begin with, and fields of whole parts.
 use Prim.Native.Nat.{ℕ, _/_, _%_}
-use mathlib.Core.Bool.{Bool, false, _&&_, cond}
+use mathlib.Core.Bool.{Bool, _&&_, cond}
 use mathlib.Core.List.{List, [], _∷_}
 use lib.Dec.{eqb}
 use lib.ListN.{length, getD}
@@ -28,10 +28,3 @@ contactsOf is = getD (valueIn is 0) 0 0
 abbrev pub hasParts : ℕ → ℕ → ℕ → ℕ → Item → Bool
 hasParts tag size least most i =
     eqb (i .tag) tag && eqb (length (i .value) % size) 0 && between least (length (i .value) / size) most
-
--- Just two fields, of such parts each.
-unfoldable pub areTwo : (Item → Bool) → (Item → Bool) → List Item → Bool
-areTwo p q [] = false
-areTwo p q (b ∷ []) = false
-areTwo p q (b ∷ c ∷ []) = p b && q c
-areTwo p q (b ∷ c ∷ d ∷ is) = false

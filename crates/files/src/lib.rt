@@ -6,10 +6,9 @@ mod write;
 
 pub use header::Contacts;
 pub use header::count_contacts;
-pub use parts::Parts;
+pub use parts::at_most;
 pub use parts::field_at;
 pub use parts::has_parts;
-pub use parts::two_follow;
 pub use room::Room;
 pub use room::Written;
 pub use room::ask_room;

@@ -4,15 +4,16 @@ use Prim.Native.Nat.{ℕ, _+_, _/_, _≤_}
 use mathlib.Core.Path.{_≡_, refl, sym, ap, _∙_}
 use mathlib.Core.Bool.{Bool, true, false, _&&_, cond}
 use mathlib.Core.List.{List, [], _∷_}
-use lib.Dec.{eqb}
-use lib.ListN.{length, drop}
+use borrow.Author.Tests.{leb-true}
+use lib.Dec.{eqb, leb}
+use lib.ListN.{length, drop, drop-of-length-le}
 use Rattle.fields.specs.declared.Framing.{Framing}
 use Rattle.fields.specs.declared.Framing.the-variants.{Whole, Broken}
-use Rattle.fields.specs.Fields.{Item, Fields, fieldsOf, valueIn}
+use Rattle.fields.specs.Fields.{Item, Fields, fieldsOf, itemIn, valueIn}
 use Rattle.fields.specs.Refusals.{framingNumber, firstNo}
 use Rattle.fields.proofs.Bounded.{and-left, and-right}
-use Rattle.files.specs.Header.{contactsIn, contactsNumber, contactsOf, hasParts, areTwo}
-use Rattle.files.proofs.WholeParts.{HasParts, two-parts}
+use Rattle.files.specs.Header.{contactsIn, contactsNumber, contactsOf, hasParts}
+use Rattle.files.proofs.WholeParts.{HasParts, part-at}
 use Rattle.files.proofs.Heads.{field, counts}
 use Rattle.netlist.specs.declared.form.Form.{Form}
 use Rattle.netlist.specs.declared.form.Form.the-variants.{Formed, Unformed}
@@ -38,7 +39,7 @@ whole Broken e = absurd (let z : _≡_ {A = ℕ} 0 1 = cc in omega arith)
 
 pub well-formed : (fs : Fields) (n : ℕ) → formOf fs ≡ Formed n → WellFormed fs n
 unfolding formOf
-well-formed fs n e = go (a && b && c) refl e
+well-formed fs n e = go (a && b && c && o && k) refl e
   where
     m : ℕ
     m = contactsOf (fs .items)
@@ -50,23 +51,34 @@ well-formed fs n e = go (a && b && c) refl e
     b = eqb (contactsNumber (contactsIn (fs .items))) 0
 
     c : Bool
-    c = areTwo (hasParts 4 5 0 10560) (hasParts 5 4 1 8) (drop 1 (fs .items))
+    c = hasParts 4 5 0 10560 (itemIn (fs .items) 1)
 
-    go : (t : Bool) → (a && b && c) ≡ t → cond t (Formed m) Unformed ≡ Formed n → WellFormed fs n
+    o : Bool
+    o = hasParts 5 4 1 8 (itemIn (fs .items) 2)
+
+    k : Bool
+    k = leb (length (fs .items)) 3
+
+    go : (t : Bool) → (a && b && c && o && k) ≡ t → cond t (Formed m) Unformed ≡ Formed n → WellFormed fs n
     go true t e =
-        let l = and-left (a && b) c t in
-        let (k, h) = counts (fs .items) (and-right a b l) in
+        let parted = and-left (a && b && c && o) k t in
+        let first = and-left (a && b && c) o parted in
+        let counted = and-left (a && b) c first in
+        let (count, h) = counts (fs .items) (and-right a b counted) in
         let same : n ≡ m = cc in
-        let is-k : n ≡ k = same ∙ ap (λ (is : List Item). contactsOf is) (h .split) in
-        let p = two-parts 4 5 0 10560 5 4 1 8 (fs .items) (and-right (a && b) c t) in
+        let is-count : n ≡ count = same ∙ ap (λ (is : List Item). contactsOf is) (h .split) in
+        let (gates, some) = part-at 1 4 5 0 10560 (fs .items) (omega arith) (and-right (a && b) c first) in
+        let (outputs, few) = part-at 2 5 4 1 8 (fs .items) (omega arith) (and-right (a && b && c) o parted) in
+        let end = drop-of-length-le (fs .items) (leb-true _ _ (and-right (a && b && c && o) k t)) in
         record {
-          whole = whole (fs .framing) (and-left a b l);
+          whole = whole (fs .framing) (and-left a b counted);
           contacts = same;
-          items = rw is-k (h .split ∙ ap (_∷_ (field 1 (k ∷ []))) (sym (ap (drop 1) (h .split)) ∙ p .0));
-          least = rw is-k (h .low);
-          most = rw is-k (h .high);
-          gates = p .1;
-          pairs = p .2;
+          items = rw is-count (h .split ∙ ap (_∷_ (field 1 (count ∷ [])))
+              (sym (ap (drop 1) (h .split)) ∙ gates ∙ ap (_∷_ (field 4 (valueIn (fs .items) 1))) (outputs ∙ ap (_∷_ (field 5 (valueIn (fs .items) 2))) end)));
+          least = rw is-count (h .low);
+          most = rw is-count (h .high);
+          gates = some;
+          pairs = few;
         }
     go false t e = absurd (let z : _≡_ {A = ℕ} 0 1 = cc in omega arith)
 

@@ -14,7 +14,7 @@ use Rattle.fields.specs.Refusals.{firstNo}
 use Rattle.fields.proofs.Bounded.{all-of}
 use Rattle.fields.proofs.Encoding.{of-encoded}
 use Rattle.fields.proofs.Parts.{length-parts, part-at}
-use Rattle.files.specs.Header.{contactsIn, areTwo}
+use Rattle.files.specs.Header.{contactsIn}
 use Rattle.files.proofs.WholeParts.{whole-parts}
 use Rattle.netlist.specs.declared.Gate.{Gate}
 use Rattle.netlist.specs.declared.Pair.{Pair}
@@ -112,14 +112,15 @@ file-determines a b e = sym (reads-back a) ∙ ap (λ (f : List ℕ). netlistOf 
 
 module _ (net : Netlist) (b : Bounds net) where
   items-formed : Formed (net .contacts) ≡ formOf (record { items = itemsOf net; framing = Whole })
-  unfolding contactsIn areTwo
+  unfolding contactsIn
   items-formed =
       let g = length-gate-bytes (net .gates) in
       let p = length-pair-bytes (net .pairs) in
       formed (record { items = itemsOf net; framing = Whole }) refl
       (simp (le-leb _ _ (b .least), le-leb _ _ (b .most)))
-      (ap₂ _&&_ (whole-parts 4 5 0 10560 (flatMap gateBytes (net .gates)) (omega arith) (omega arith) (omega arith))
-      (whole-parts 5 4 1 8 (flatMap pairBytes (net .pairs)) (omega arith) (omega arith) (omega arith)))
+      (whole-parts 4 5 0 10560 (flatMap gateBytes (net .gates)) (omega arith) (omega arith) (omega arith))
+      (whole-parts 5 4 1 8 (flatMap pairBytes (net .pairs)) (omega arith) (omega arith) (omega arith))
+      refl
 
   pub file-formed : formOf (fieldsOf (fileOf net)) ≡ Formed (net .contacts)
   file-formed = ap formOf (file-fields net) ∙ sym items-formed

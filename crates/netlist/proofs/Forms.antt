@@ -3,11 +3,12 @@ use Prim.Native.Nat.{ℕ}
 use mathlib.Core.Path.{_≡_, sym, ap, _∙_}
 use mathlib.Core.Bool.{true, false, and-false}
 use mathlib.Core.List.{List}
-use lib.ListN.{drop}
+use lib.Dec.{leb}
+use lib.ListN.{length}
 use Rattle.fields.specs.declared.Framing.the-variants.{Whole, Broken}
-use Rattle.fields.specs.Fields.{Item, Fields}
+use Rattle.fields.specs.Fields.{Item, Fields, itemIn}
 use Rattle.files.specs.declared.header.Contacts.the-variants.{Counted, Uncounted}
-use Rattle.files.specs.Header.{contactsOf, contactsIn, hasParts, areTwo}
+use Rattle.files.specs.Header.{contactsOf, contactsIn, hasParts}
 use Rattle.files.proofs.Heads.{counted}
 use Rattle.netlist.specs.declared.form.Form.the-variants.{Formed, Unformed}
 use Rattle.netlist.specs.Questions.{formOf}
@@ -21,12 +22,21 @@ module _ (fs : Fields) where
   unfolding formOf
   uncounted e = simp (e, and-false)
 
-  pub misparted : areTwo (hasParts 4 5 0 10560) (hasParts 5 4 1 8) (drop 1 (fs .items)) ≡ false → Unformed ≡ formOf fs
+  pub gates-misparted : hasParts 4 5 0 10560 (itemIn (fs .items) 1) ≡ false → Unformed ≡ formOf fs
   unfolding formOf
-  misparted e = simp (e, and-false)
+  gates-misparted e = simp (e, and-false)
 
-  pub formed : {n : ℕ} → fs .framing ≡ Whole → contactsIn (fs .items) ≡ Counted n → areTwo (hasParts 4 5 0 10560) (hasParts 5 4 1 8) (drop 1 (fs .items)) ≡ true →
-      Formed n ≡ formOf fs
+  pub outputs-misparted : hasParts 5 4 1 8 (itemIn (fs .items) 2) ≡ false → Unformed ≡ formOf fs
   unfolding formOf
-  formed {n} w e p =
-      ap Formed (sym (ap (λ (is : List Item). contactsOf is) (counted (fs .items) n e .split))) ∙ simp (w, e, p)
+  outputs-misparted e = simp (e, and-false)
+
+  pub too-many : leb (length (fs .items)) 3 ≡ false → Unformed ≡ formOf fs
+  unfolding formOf
+  too-many e = simp (e, and-false)
+
+  pub formed : {n : ℕ} → fs .framing ≡ Whole → contactsIn (fs .items) ≡ Counted n →
+      hasParts 4 5 0 10560 (itemIn (fs .items) 1) ≡ true → hasParts 5 4 1 8 (itemIn (fs .items) 2) ≡ true →
+      leb (length (fs .items)) 3 ≡ true → Formed n ≡ formOf fs
+  unfolding formOf
+  formed {n} w e p q m =
+      ap Formed (sym (ap (λ (is : List Item). contactsOf is) (counted (fs .items) n e .split))) ∙ simp (w, e, p, q, m)

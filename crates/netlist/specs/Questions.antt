@@ -3,11 +3,11 @@ use Prim.Native.Nat.{ℕ, zero, suc, _+_, _*_, _/_, _%_}
 use mathlib.Core.Bool.{Bool, _&&_, cond}
 use mathlib.Core.List.{List, [], _∷_}
 use lib.Dec.{leb, ltb, eqb}
-use lib.ListN.{length, getD, drop}
+use lib.ListN.{length, getD}
 use Rattle.fields.specs.Bounded.{all}
-use Rattle.fields.specs.Fields.{Item, Fields, fieldsOf, valueIn}
+use Rattle.fields.specs.Fields.{Item, Fields, fieldsOf, itemIn, valueIn}
 use Rattle.fields.specs.Refusals.{framingNumber, firstNo}
-use Rattle.files.specs.Header.{contactsIn, contactsNumber, contactsOf, hasParts, areTwo}
+use Rattle.files.specs.Header.{contactsIn, contactsNumber, contactsOf, hasParts}
 use Rattle.netlist.specs.declared.Gate.{Gate}
 use Rattle.netlist.specs.declared.Pair.{Pair}
 use Rattle.netlist.specs.declared.Hold.{Hold}
@@ -27,7 +27,8 @@ unfoldable pub formOf : Fields → Form
 formOf fs =
     cond
     (eqb (framingNumber (fs .framing)) 0 && eqb (contactsNumber (contactsIn (fs .items))) 0
-    && areTwo (hasParts 4 5 0 10560) (hasParts 5 4 1 8) (drop 1 (fs .items)))
+    && hasParts 4 5 0 10560 (itemIn (fs .items) 1) && hasParts 5 4 1 8 (itemIn (fs .items) 2)
+    && leb (length (fs .items)) 3)
     (Formed (contactsOf (fs .items)))
     Unformed
 

@@ -4,7 +4,6 @@ use crate::Hold;
 use crate::Pair;
 use fields::Framing;
 use files::Contacts;
-use files::Parts;
 ghost use mathlib.Core.Path.{_≡_};
 ghost use Prim.Native.Nat.{_+_, _*_, _≤_};
 ghost use lib.ListN.{length};
@@ -29,19 +28,13 @@ pub fn ask_form(file: &[u8]) -> Form
     let Contacts::Counted(n) = files::count_contacts(file) else {
         return Form::Unformed;
     };
-    let gates = Parts {
-        tag: 4,
-        size: 5,
-        least: 0,
-        most: 10560,
-    };
-    let outputs = Parts {
-        tag: 5,
-        size: 4,
-        least: 1,
-        most: 8,
-    };
-    if !files::two_follow(file, gates, outputs) {
+    if !files::has_parts(file, files::field_at(file, 1), 4, 5, 0, 10560) {
+        return Form::Unformed;
+    }
+    if !files::has_parts(file, files::field_at(file, 2), 5, 4, 1, 8) {
+        return Form::Unformed;
+    }
+    if !files::at_most(file, 3) {
         return Form::Unformed;
     }
     Form::Formed(n)

@@ -4,7 +4,7 @@ use Rattle.pilgodur.specs.Starred.{AllHold, starred}
 use Rattle.fields.specs.Bounded.{all, any, listed, leastFrom}
 use Rattle.fields.specs.Fields.{stepAt, valueOf, fieldsWithin, fieldsFrom, fieldsOf, encoded}
 use Rattle.fields.specs.Refusals.{firstNo}
-use Rattle.files.specs.Header.{contactsIn, areTwo}
+use Rattle.files.specs.Header.{contactsIn}
 use Rattle.diagram.specs.Diagram.{width, edgeAt, root, inputOf}
 use Rattle.diagram.specs.Questions.{inRange, distinct, mention, mentions, brought, numbered}
 use Rattle.table.specs.Table.{outputsIn, areLevels, padded, diagramOf, fieldsRefusal, diagramRefusal, tableRefusal}
@@ -31,6 +31,6 @@ use Rattle.pilgodur.specs.Answers.{probeOf}
 use mathlib.Core.List.{flatMap}
 
 pub all-starred : AllHold starred
-unfolding all any stepAt valueOf fieldsWithin fieldsFrom fieldsOf encoded contactsIn firstNo width edgeAt root inputOf inRange distinct mention mentions brought numbered outputsIn areLevels padded diagramOf fieldsRefusal diagramRefusal tableRefusal listed anyOf isRead gatesOf pairsOf holdsOf fileOf fileWith drive workOut held valuesOf shownOf areTwo formOf isSound areOrdered netlistOf netlistRefusal runRefusal runOf _>>=_ sequence cutWithin cut term orTree joined productEntry product levelMatrix block wholeBlock boardOf depthsOf depthOf codeRails checkedOf writingOf buildingOf stuckAt noCode betrays leastFrom probeRefusal probingOf probeOf decimal inFive rowText numberedRows rowsFrom sheetOf sheetingOf flatMap bytesOf same tree place firsts levelOf isNarrow isAbove isDrawing next lead drawing.formOf drawingRefusal fromDrawingOf
+unfolding all any stepAt valueOf fieldsWithin fieldsFrom fieldsOf encoded contactsIn firstNo width edgeAt root inputOf inRange distinct mention mentions brought numbered outputsIn areLevels padded diagramOf fieldsRefusal diagramRefusal tableRefusal listed anyOf isRead gatesOf pairsOf holdsOf fileOf fileWith drive workOut held valuesOf shownOf formOf isSound areOrdered netlistOf netlistRefusal runRefusal runOf _>>=_ sequence cutWithin cut term orTree joined productEntry product levelMatrix block wholeBlock boardOf depthsOf depthOf codeRails checkedOf writingOf buildingOf stuckAt noCode betrays leastFrom probeRefusal probingOf probeOf decimal inFive rowText numberedRows rowsFrom sheetOf sheetingOf flatMap bytesOf same tree place firsts levelOf isNarrow isAbove isDrawing next lead drawing.formOf drawingRefusal fromDrawingOf
 all-starred =
     (refl, ((refl, refl, refl), ((refl, refl), ((refl, refl), (refl, (refl, ((refl, refl), (refl, ((refl, refl, refl), (refl, (refl, (refl, ((refl, refl, refl), (refl, (refl, (refl, (refl, ((refl, refl, refl), ((refl, refl, refl), ((refl, refl, refl), ((refl, refl, refl), ((refl, refl, refl), ((refl, refl, refl), ((refl, refl, refl), (refl, ((refl, refl, refl), tt))))))))))))))))))))))))))

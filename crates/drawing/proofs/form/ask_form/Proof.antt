@@ -1,10 +1,17 @@
 -- `form::ask_form` meets its contract: each answer is the case that the answers before it lead to.
 use borrow.Author.Needs.{needs}
 use borrow.Author.Tests.{not-true, not-false}
-use mathlib.Core.Path.{sym, _∙_}
-use Rattle.drawing.proofs.Forms.{broken, uncounted, misparted, unsound, formed, parts-are}
+use Prim.Native.Nat.{ℕ}
+use mathlib.Core.Path.{_≡_, sym, ap, _∙_}
+use mathlib.Core.List.{List}
+use Rattle.fields.specs.Fields.{Item, fieldsOf, valueIn}
+use Rattle.files.specs.Header.{hasParts}
+use Rattle.drawing.proofs.Forms.{broken, uncounted, first-misparted, second-misparted, too-many, unsound, formed, parts-are}
 use Rattle.drawing.proofs.form.ask_form.Statement.{statement}
 use Rattle.drawing.proofs.form.ask_form.Tie as tie
+
+abbrev file : tie.After-value2 → List ℕ
+file v = v .before .before .before .before .before .before .before .before .before .before .before .before .before .before .before .before .before .before .args .file .now
 
 whole-requires : tie.Need-whole-requires
 whole-requires c κs = search needs
@@ -30,39 +37,71 @@ enum-told-3 c = search needs
 returns-2 : tie.Need-returns-2
 returns-2 c = uncounted _ (sym (c .before .before .count-contacts .ensures) ∙ c .enum-told3 .given .1)
 
-two-follow-requires : tie.Need-two-follow-requires
-two-follow-requires c κs = search needs
+field-at-requires : tie.Need-field-at-requires
+field-at-requires c κs = search needs
+
+has-parts-requires : tie.Need-has-parts-requires
+has-parts-requires c κs = search needs
 
 returns-3 : tie.Need-returns-3
-returns-3 c = misparted _ (sym (c .before .two-follow .ensures) ∙ not-true _ (c .if1 .taken))
+returns-3 c =
+    first-misparted _ (ap (hasParts 2 1 1 8) (sym (c .before .before .field-at .ensures)) ∙ sym (c .before .has-parts .ensures) ∙ not-true _ (c .if1 .taken))
 
-nth-requires : tie.Need-nth-requires
-nth-requires c κs = search needs
+field-at-requires-2 : tie.Need-field-at-requires-2
+field-at-requires-2 c κs = search needs
 
-nth-requires-2 : tie.Need-nth-requires-2
-nth-requires-2 c κs = search needs
+has-parts-requires-2 : tie.Need-has-parts-requires-2
+has-parts-requires-2 c κs = search needs
+
+returns-4 : tie.Need-returns-4
+returns-4 c =
+    second-misparted _ (ap (hasParts 7 3 0 200) (sym (c .before .before .field-at2 .ensures)) ∙ sym (c .before .has-parts2 .ensures) ∙ not-true _ (c .if2 .taken))
+
+at-most-requires : tie.Need-at-most-requires
+at-most-requires c κs = search needs
+
+returns-5 : tie.Need-returns-5
+returns-5 c = too-many _ (sym (c .before .at-most .ensures) ∙ not-true _ (c .if3 .taken))
+
+value-requires : tie.Need-value-requires
+value-requires c κs = search needs
+
+value-requires-2 : tie.Need-value-requires-2
+value-requires-2 c κs = search needs
 
 is-sound-requires : tie.Need-is-sound-requires
 is-sound-requires c κs = search needs
 
-returns-4 : tie.Need-returns-4
-returns-4 c =
-    let parted = c .before .before .before .before in
-    let count = parted .before .before .before in
-    unsound _
-    (parts-are _ (sym (count .before .before .count-contacts .ensures) ∙ count .n .given .1) (c .before .before .before .nth .ensures)
-    (c .before .before .nth2 .ensures) (c .before .is-sound .ensures) ∙ not-true _ (c .if2 .taken))
+-- The values of the two fields are what was asked of the drawing.
+outputs-are : (v : tie.After-value2) → v .before .value .result .now ≡ valueIn (fieldsOf (file v) .items) 1
+outputs-are v =
+    v .before .value .ensures ∙ ap (λ (i : Item). i .value) (v .before .before .before .before .before .before .before .before .before .field-at .ensures)
 
-returns-5 : tie.Need-returns-5
-returns-5 c =
-    let parted = c .before .before .before .before in
-    let count = parted .before .before .before in
+nodes-are : (v : tie.After-value2) → v .value2 .result .now ≡ valueIn (fieldsOf (file v) .items) 2
+nodes-are v = v .value2 .ensures ∙ ap (λ (i : Item). i .value) (v .before .before .before .before .before .before .field-at2 .ensures)
+
+returns-6 : tie.Need-returns-6
+returns-6 c =
+    let v = c .before .before in
+    let count = v .before .before .before .before .before .before .before .before .before .before .before in
+    unsound _
+    (parts-are _ (sym (count .before .before .count-contacts .ensures) ∙ count .n .given .1) (outputs-are v) (nodes-are v)
+    (c .before .is-sound .ensures) ∙ not-true _ (c .if4 .taken))
+
+returns-7 : tie.Need-returns-7
+returns-7 c =
+    let v = c .before .before in
+    let ended = v .before .before in
+    let nodes = ended .before .before in
+    let outputs = nodes .before .before .before in
+    let count = outputs .before .before .before .before in
     let whole = count .before .before .before in
     let counted = sym (count .before .before .count-contacts .ensures) ∙ count .n .given .1 in
     formed _ (sym (whole .before .before .whole .ensures) ∙ whole .enum-told .given .1) counted
-    (sym (parted .before .two-follow .ensures) ∙ not-false _ (parted .if1 .left))
-    (parts-are _ counted (c .before .before .before .nth .ensures) (c .before .before .nth2 .ensures) (c .before .is-sound .ensures)
-    ∙ not-false _ (c .if2 .left))
+    (ap (hasParts 2 1 1 8) (sym (outputs .before .before .field-at .ensures)) ∙ sym (outputs .before .has-parts .ensures) ∙ not-false _ (outputs .if1 .left))
+    (ap (hasParts 7 3 0 200) (sym (nodes .before .before .field-at2 .ensures)) ∙ sym (nodes .before .has-parts2 .ensures) ∙ not-false _ (nodes .if2 .left))
+    (sym (ended .before .at-most .ensures) ∙ not-false _ (ended .if3 .left))
+    (parts-are _ counted (outputs-are v) (nodes-are v) (c .before .is-sound .ensures) ∙ not-false _ (c .if4 .left))
 
 pub ask-form-spec : {M : Type 1} → statement M
 ask-form-spec =
@@ -76,10 +115,16 @@ ask-form-spec =
     enum-known-n
     enum-told-3
     returns-2
-    two-follow-requires
+    field-at-requires
+    has-parts-requires
     returns-3
-    nth-requires
-    nth-requires-2
-    is-sound-requires
+    field-at-requires-2
+    has-parts-requires-2
     returns-4
-    returns-5)
+    at-most-requires
+    returns-5
+    value-requires
+    value-requires-2
+    is-sound-requires
+    returns-6
+    returns-7)

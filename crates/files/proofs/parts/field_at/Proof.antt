@@ -3,7 +3,7 @@ use borrow.Author.Needs.{needs}
 use mathlib.Core.Path.{sym, _∙_}
 use mathlib.Core.List.{[]}
 use Rattle.fields.specs.Fields.{valueOf}
-use Rattle.fields.proofs.Places.{value-by}
+use Rattle.fields.proofs.Places.{item-by}
 use Rattle.fields.proofs.Steps.{from-start, items-next, ended}
 use Rattle.files.proofs.parts.field_at.Statement.{statement}
 use Rattle.files.proofs.parts.field_at.Tie as tie
@@ -26,7 +26,7 @@ returns c =
     let step = c .before in
     let skip = step .before in
     let args = skip .before .before .before .args in
-    value-by (args .place) [] (from-start (args .file .now) (skip .before .new .ensures)) (skip .skip .ensures)
+    item-by (args .place) [] (from-start (args .file .now) (skip .before .new .ensures)) (skip .skip .ensures)
     (ended _ _ _ (sym (step .next .ensures)) (c .match .keys2))
 
 returns-2 : tie.Need-returns-2
@@ -35,7 +35,7 @@ returns-2 c =
     let step = found .before .before in
     let skip = step .before in
     let args = skip .before .before .before .args in
-    value-by (args .place) _ (from-start (args .file .now) (skip .before .new .ensures)) (skip .skip .ensures)
+    item-by (args .place) _ (from-start (args .file .now) (skip .before .new .ensures)) (skip .skip .ensures)
     (items-next _ _ (sym (step .next .ensures) ∙ found .field .given .1))
 
 pub field-at-spec : {M : Type 1} → statement M

@@ -1,8 +1,9 @@
 -- `form::ask_form` meets its contract: each answer is the case that the answers before it lead to.
 use borrow.Author.Needs.{needs}
 use borrow.Author.Tests.{not-true, not-false}
-use mathlib.Core.Path.{sym, _∙_}
-use Rattle.netlist.proofs.Forms.{broken, uncounted, misparted, formed}
+use mathlib.Core.Path.{sym, ap, _∙_}
+use Rattle.files.specs.Header.{hasParts}
+use Rattle.netlist.proofs.Forms.{broken, uncounted, gates-misparted, outputs-misparted, too-many, formed}
 use Rattle.netlist.proofs.form.ask_form.Statement.{statement}
 use Rattle.netlist.proofs.form.ask_form.Tie as tie
 
@@ -30,19 +31,43 @@ enum-told-3 c = search needs
 returns-2 : tie.Need-returns-2
 returns-2 c = uncounted _ (sym (c .before .before .count-contacts .ensures) ∙ c .enum-told3 .given .1)
 
-two-follow-requires : tie.Need-two-follow-requires
-two-follow-requires c κs = search needs
+field-at-requires : tie.Need-field-at-requires
+field-at-requires c κs = search needs
+
+has-parts-requires : tie.Need-has-parts-requires
+has-parts-requires c κs = search needs
 
 returns-3 : tie.Need-returns-3
-returns-3 c = misparted _ (sym (c .before .two-follow .ensures) ∙ not-true _ (c .if1 .taken))
+returns-3 c =
+    gates-misparted _ (ap (hasParts 4 5 0 10560) (sym (c .before .before .field-at .ensures)) ∙ sym (c .before .has-parts .ensures) ∙ not-true _ (c .if1 .taken))
+
+field-at-requires-2 : tie.Need-field-at-requires-2
+field-at-requires-2 c κs = search needs
+
+has-parts-requires-2 : tie.Need-has-parts-requires-2
+has-parts-requires-2 c κs = search needs
 
 returns-4 : tie.Need-returns-4
 returns-4 c =
-    let count = c .before .before .before in
+    outputs-misparted _ (ap (hasParts 5 4 1 8) (sym (c .before .before .field-at2 .ensures)) ∙ sym (c .before .has-parts2 .ensures) ∙ not-true _ (c .if2 .taken))
+
+at-most-requires : tie.Need-at-most-requires
+at-most-requires c κs = search needs
+
+returns-5 : tie.Need-returns-5
+returns-5 c = too-many _ (sym (c .before .at-most .ensures) ∙ not-true _ (c .if3 .taken))
+
+returns-6 : tie.Need-returns-6
+returns-6 c =
+    let outputs = c .before .before in
+    let gates = outputs .before .before .before in
+    let count = gates .before .before .before .before in
     let whole = count .before .before .before in
     formed _ (sym (whole .before .before .whole .ensures) ∙ whole .enum-told .given .1)
     (sym (count .before .before .count-contacts .ensures) ∙ count .n .given .1)
-    (sym (c .before .two-follow .ensures) ∙ not-false _ (c .if1 .left))
+    (ap (hasParts 4 5 0 10560) (sym (gates .before .before .field-at .ensures)) ∙ sym (gates .before .has-parts .ensures) ∙ not-false _ (gates .if1 .left))
+    (ap (hasParts 5 4 1 8) (sym (outputs .before .before .field-at2 .ensures)) ∙ sym (outputs .before .has-parts2 .ensures) ∙ not-false _ (outputs .if2 .left))
+    (sym (c .before .at-most .ensures) ∙ not-false _ (c .if3 .left))
 
 pub ask-form-spec : {M : Type 1} → statement M
 ask-form-spec =
@@ -56,6 +81,12 @@ ask-form-spec =
     enum-known-n
     enum-told-3
     returns-2
-    two-follow-requires
+    field-at-requires
+    has-parts-requires
     returns-3
-    returns-4)
+    field-at-requires-2
+    has-parts-requires-2
+    returns-4
+    at-most-requires
+    returns-5
+    returns-6)

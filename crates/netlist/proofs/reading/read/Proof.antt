@@ -1,7 +1,7 @@
 -- `reading::read` meets its contract: each answer is the case that the answers before it lead to.
 use borrow.Author.Needs.{needs}
-use mathlib.Core.Path.{_≡_, refl, sym, _∙_}
-use Rattle.fields.specs.Fields.{fieldsOf}
+use mathlib.Core.Path.{_≡_, refl, sym, ap, _∙_}
+use Rattle.fields.specs.Fields.{Item, fieldsOf}
 use Rattle.netlist.specs.declared.form.Form.the-variants.{Formed}
 use Rattle.netlist.specs.Questions.{formOf}
 use Rattle.netlist.proofs.Accepted.{well-formed}
@@ -60,16 +60,16 @@ returns-2 : tie.Need-returns-2
 returns-2 c =
     let w = c .before .before .before in
     let v = w .before in
-    unsound _ (form v) (v .before .value .ensures ∙ v .before .before .before .field-at .ensures)
-    (v .value2 .ensures ∙ v .before .before .field-at2 .ensures) (sym (w .ask-wiring .ensures) ∙ c .before .enum-told3 .given .1)
+    unsound _ (form v) (v .before .value .ensures ∙ ap (λ (i : Item). i .value) (v .before .before .before .field-at .ensures))
+    (v .value2 .ensures ∙ ap (λ (i : Item). i .value) (v .before .before .field-at2 .ensures)) (sym (w .ask-wiring .ensures) ∙ c .before .enum-told3 .given .1)
     (c .refused2 .ensures)
 
 returns-3 : tie.Need-returns-3
 returns-3 c =
     let w = c .before .before in
     let v = w .before in
-    sound _ (form v) (v .before .value .ensures ∙ v .before .before .before .field-at .ensures)
-    (v .value2 .ensures ∙ v .before .before .field-at2 .ensures) (sym (w .ask-wiring .ensures) ∙ c .enum-told2 .given .1)
+    sound _ (form v) (v .before .value .ensures ∙ ap (λ (i : Item). i .value) (v .before .before .before .field-at .ensures))
+    (v .value2 .ensures ∙ ap (λ (i : Item). i .value) (v .before .before .field-at2 .ensures)) (sym (w .ask-wiring .ensures) ∙ c .enum-told2 .given .1)
     refl refl (sym (v .before .value .ensures)) (sym (v .value2 .ensures))
 
 pub read-spec : {M : Type 1} → statement M

@@ -29,13 +29,13 @@ use denote.Triple.Statement.{Contract, Triple}
 use denote.Triple.Entry.{Vals, onEntry}
 use denote.Triple.Spec.{Meets, tripleOf}
 use denote.Triple.Table.{entered, cited}
-use Rattle.fields.specs.Fields.{fieldsFrom, fieldsOf, valueIn}
+use Rattle.fields.specs.Fields.{Item, fieldsFrom, fieldsOf, valueIn}
 use Rattle.fields.specs.declared.Step.{Step}
 use Rattle.fields.proofs.Steps.{from-start}
 use Rattle.reader.specs.Inner.Found.{foundIn}
 use Rattle.reader.specs.declared.Reader.{Reader}
 use Rattle.reader.proofs.Places.{found-at}
-use Rattle.fields.proofs.Places.{value-by}
+use Rattle.fields.proofs.Places.{item-by}
 use Rattle.reader.proofs.ByHand.{Walked, Left, ends, meets, calls}
 use Rattle.reader.proofs.Held.{MadeReader, Moved, Stepped, FoundBy, the-file, the-reader, the-step, file-val, typed-local, step-typed, twice}
 use Rattle.reader.proofs.Reader.new as new
@@ -80,7 +80,7 @@ module _ {M : Type 1} (𝓤 : URA M) (H : Heap 𝓤) (A : Atoms 𝓤) (mem : Mem
 together : (s : RefT (List ℕ)) (n : ℕ) (d m : Reader) (t : Step) (r : RefT (List ℕ)) → MadeReader s d → Moved d n m → Stepped m t → FoundBy m t r → now r ≡ valueIn (fieldsOf (now s) .items) n
 together s n d m t r made moved stepped found =
     let start = ap (λ (x : RefT (List ℕ)). fieldsFrom (now x) (d .at)) (made .0) ∙ from-start (now s) (made .1) in
-    found ∙ ap (foundIn (now (m .src))) stepped ∙ found-at (now (m .src)) (m .at) ∙ value-by n (fieldsFrom (now (m .src)) (m .at) .items) start (moved .1) refl
+    found ∙ ap (foundIn (now (m .src))) stepped ∙ found-at (now (m .src)) (m .at) ∙ ap (λ (i : Item). i .value) (item-by n (fieldsFrom (now (m .src)) (m .at) .items) start (moved .1) refl)
 
 module _ {M : Type 1} (𝓤 : URA M) (H : Heap 𝓤) (A : Atoms 𝓤) (W : Given 𝓤 H A) (mem : Memory → SProp 𝓤) (run : Routine → Fun 𝓤) (κ : Lft) (q : Share) (s : RefT (List ℕ)) (n : ℕ) (ok : n < 2 ^ 64) where
   abbrev at : Vals nth.signature (κ, tt)
