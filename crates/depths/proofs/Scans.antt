@@ -14,17 +14,13 @@ use Rattle.fields.specs.Bounded.{listed}
 use Rattle.simulation.specs.Run.{Driver, gate, drive, workOut}
 use Rattle.fields.proofs.Listed.{listed-more}
 use Rattle.simulation.proofs.Runs.{run-more}
+use Rattle.rules.proofs.Depths.{largest-at}
 use Rattle.rules.specs.Board.{largest, depthRule, depthsOf, depthOf}
 use Rattle.depths.specs.Inner.Depths.{depthsFrom, SourcesBelow}
 
 largest-more : (xs : List ℕ) (y : ℕ) → largest (xs ++ (y ∷ [])) ≡ max (largest xs) y
 largest-more [] y = omega arith
 largest-more (x ∷ xs) y = omega (arith, largest-more xs y)
-
-largest-at : (xs : List ℕ) (i : ℕ) → getD xs i 0 ≤ largest xs
-largest-at [] i = omega arith
-largest-at (x ∷ xs) zero = omega arith
-largest-at (x ∷ xs) (suc i) = omega (arith, largest-at xs i)
 
 largest-zeros : (n : ℕ) → largest (replicate n 0) ≡ 0
 largest-zeros zero = refl

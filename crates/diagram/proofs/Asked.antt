@@ -10,6 +10,7 @@ use borrow.Author.Tests.{lt-ltb}
 use lib.Dec.{ltb}
 use lib.ListN.{length, getD}
 use Rattle.fields.specs.Bounded.{all}
+use Rattle.fields.proofs.Bounded.{all-agree}
 use Rattle.diagram.specs.declared.Diagram.{Diagram}
 use Rattle.diagram.specs.declared.sound.Range.the-variants.{Within, Outside}
 use Rattle.diagram.specs.declared.sound.Numbering.the-variants.{InTurn, OutOfTurn}
@@ -17,11 +18,6 @@ use Rattle.diagram.specs.Inner.Bytes.{isBelow, isInTurn}
 use Rattle.diagram.specs.Diagram.{width, edgeAt, root}
 use Rattle.diagram.specs.Inner.Lent.{Fit, HasLevels, HasOutputs}
 use Rattle.diagram.specs.Questions.{Sized, inRange, mention, mentions, inTurn, numbered, rangeOf, numberingOf}
-
-all-agree : (n : ℕ) (p q : ℕ → Bool) → ((i : ℕ) → i < n → p i ≡ q i) → all n p ≡ all n q
-unfolding all
-all-agree zero p q h = refl
-all-agree (suc n) p q h = ap₂ _&&_ (all-agree n p q (λ i l. h i (omega arith))) (h n (omega arith))
 
 pub width-is : (d : Diagram) (l : ℕ) → l < d .contacts → getD (d .widths) l 0 ≡ width d l
 unfolding width

@@ -18,7 +18,7 @@ no-wrong-lines table (bytes, all) b bound holds (ordered, way) x j h =
     let d = diagramIn table in
     let a = accepted table all in
     let some = a .sized .contacts .0 in
-    let run = one-way-run (boardOf d) (board-wired d some) x b bound (holdsOf holds) (all-holds (λ v. v ≡ b) holds way) in
+    let run = one-way-run (boardOf d) (board-wired d some) x b bound (holdsOf holds) (all-holds (λ h. h .value ≡ b) holds way) in
     ⊎-elim (λ (p, q). inl (shows-by d _ j h _ _ p q)) (λ (p, q). inr (shows-by d _ j h _ _ p q))
     (no-wrong-code d (a .reduced .ranged) some x b _ bound run j h)
 

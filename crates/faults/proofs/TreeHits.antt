@@ -12,7 +12,7 @@ use Rattle.netlist.specs.declared.Gate.{Gate}
 use Rattle.rules.specs.declared.Entry.{Entry}
 use Rattle.rules.specs.declared.Entry.the-variants.{Line}
 use Rattle.rules.specs.Make.{_>>=_}
-use Rattle.rules.specs.Blocks.{Cut, one, two, size, cut, orTree, joined}
+use Rattle.rules.specs.Blocks.{Cut, one, two, size, cut, tree, orTree, joined}
 use Rattle.rules.proofs.Makes.{Each, each-left, each-right}
 use Rattle.rules.proofs.Valuations.{Down, Up, shows}
 use Rattle.rules.proofs.Cuts.{size-pos, size-cut}
@@ -33,7 +33,7 @@ module _ (y : ℕ) where
   TreeHit c ls next = OrHit y (size c) ls (EachOf (orTree c ls) next) (Line (orTree c ls next .1))
 
   tree-hit : (c : Cut) (ls : List ℕ) (next : ℕ) → Hit y next (orTree c ls next .0) → TreeHit c ls next
-  unfolding orTree _>>=_
+  unfolding tree _>>=_
   tree-hit one ls next h = absurd (no-hit h)
   tree-hit (two a b) ls next h =
       ⊎-elim (λ h. in-first (tree-hit a firsts next h))
@@ -117,9 +117,9 @@ module _ (y : ℕ) where
   unfolding joined _>>=_
   or-hit [] next = λ h. absurd (no-hit h)
   or-hit (x ∷ ls) next =
-      let tree = orTree (cut (length (x ∷ ls))) (x ∷ ls) next in
-      subst⁻¹ (λ gates. Hit y next gates → OrHit y (length (x ∷ ls)) (x ∷ ls) (λ P. Each P next gates) (Line (tree .1)))
-      (append-nil (tree .0))
+      let joins = orTree (cut (length (x ∷ ls))) (x ∷ ls) next in
+      subst⁻¹ (λ gates. Hit y next gates → OrHit y (length (x ∷ ls)) (x ∷ ls) (λ P. Each P next gates) (Line (joins .1)))
+      (append-nil (joins .0))
       (rw (size-cut (length (x ∷ ls)) (omega arith)) at (tree-hit (cut (length (x ∷ ls))) (x ∷ ls) next))
 
   -- One of the terms.

@@ -6,19 +6,15 @@ use mathlib.Core.Path.{_≡_, sym, ap₂, _∙_}
 use mathlib.Core.Bool.{false}
 use mathlib.Core.List.{List, [], _∷_}
 use mathlib.Core.Logic.{by-cases}
-use borrow.Author.Tests.{ne-eqb}
 use lib.ListN.{length, getD}
 use Rattle.netlist.specs.declared.Hold.{Hold}
 use Rattle.netlist.specs.Netlist.{Netlist, gateLine, lineCount, isRead}
 use Rattle.netlist.proofs.Readers.{gate-elsewhere}
 use Rattle.netlist.proofs.Tests.{Wired}
 use Rattle.simulation.specs.Run.{gateOf, held, valuesOf}
+use Rattle.simulation.proofs.Monotone.{held-elsewhere}
 use Rattle.simulation.proofs.Obeys.{Obeys, obeys}
 use Rattle.rules.proofs.Makes.{anyGate}
-
-held-elsewhere : (h : Hold) (y v : ℕ) → (h .line ≡ y → ⊥) → held (h ∷ []) y v ≡ v
-unfolding held
-held-elsewhere h y v ne = simp (ne-eqb _ _ ne)
 
 module _ (net : Netlist) (wired : Wired net) (rails : List ℕ) (count : length rails ≡ 2 * net .contacts) (h : Hold)
     (unread : isRead net (h .line) ≡ false) where
@@ -43,7 +39,7 @@ module _ (net : Netlist) (wired : Wired net) (rails : List ℕ) (count : length 
 
   rail-same : (i : ℕ) → i < 2 * net .contacts → Same (2 + i)
   unfolding held
-  rail-same i l ne = with-hold .rail i l ∙ held-elsewhere h (2 + i) _ ne ∙ sym (without .rail i l)
+  rail-same i l ne = with-hold .rail i l ∙ held-elsewhere (h ∷ []) (2 + i) _ (ne, tt) ∙ sym (without .rail i l)
 
   gate-same : (g : ℕ) → g < length (net .gates) → ((y : ℕ) → y < first + g → Same y) → Same (first + g)
   unfolding held
@@ -51,7 +47,7 @@ module _ (net : Netlist) (wired : Wired net) (rails : List ℕ) (count : length 
       let (left, right) = gate-elsewhere net (h .line) anyGate (record { on = 0; off = 0 }) unread g l in
       let o = wired g anyGate l in
       with-hold .gate g anyGate l
-      ∙ held-elsewhere h (first + g) _ ne
+      ∙ held-elsewhere (h ∷ []) (first + g) _ (ne, tt)
       ∙ ap₂ (gateOf (getD (net .gates) g anyGate .kind)) (below _ (o .left) (λ e. left (sym e)))
       (below _ (o .right) (λ e. right (sym e)))
       ∙ sym (without .gate g anyGate l)

@@ -1,10 +1,10 @@
 -- The laws of `all` and `any`: what a loop that counts up adds at each turn, and what the answer says of each number.
 use Prim.Native.Nat.{ℕ, zero, suc, _+_, _<_}
-use native.Mathlib.Nat.{eq-or-lt-of-le, le-of-suc-le-suc, not-suc-le-zero}
+use native.Mathlib.Nat.{eq-or-lt-of-le, le-of-suc-le-suc, not-suc-le-zero, add-zero, add-suc}
 use native.Mathlib.Numerals.{add-one}
 use native.Mathlib.Omega.{arith}
 use mathlib.Core.Path.{_≡_, refl, sym, ap, ap₂, _∙_}
-use mathlib.Core.Bool.{Bool, true, false, _&&_, _||_, and-false, or-true}
+use mathlib.Core.Bool.{Bool, true, false, _&&_, _||_, and-true, and-false, and-assoc, or-true}
 use mathlib.Core.Logic.{⊎-elim}
 use Rattle.fields.specs.Bounded.{all, any}
 
@@ -45,6 +45,13 @@ module _ (p : ℕ → Bool) where
   all-of zero h = refl
   all-of (suc n) h = ap₂ _&&_ (all-of n (λ i l. h i (omega arith))) (h n (omega arith))
 
+  pub all-add : (k m : ℕ) → all (k + m) p ≡ (all k p && all m (λ i. p (k + i)))
+  unfolding all
+  all-add k zero = rw (add-zero k) (sym (and-true (all k p)))
+  all-add k (suc m) =
+      rw (add-suc k m)
+      (ap (λ (b : Bool). b && p (k + m)) (all-add k m) ∙ and-assoc (all k p) (all m (λ i. p (k + i))) (p (k + m)))
+
   pub any-none : any 0 p ≡ false
   unfolding any
   any-none = refl
@@ -76,3 +83,8 @@ module _ (p : ℕ → Bool) where
       go true b ea eb e ih = let r = ih ea in (r .0, omega arith, r .2)
       go false true ea eb e ih = (n, omega arith, eb)
       go false false ea eb e ih = absurd (let z : _≡_ {A = ℕ} 0 1 = cc in omega arith)
+
+pub all-agree : (n : ℕ) (p q : ℕ → Bool) → ((i : ℕ) → i < n → p i ≡ q i) → all n p ≡ all n q
+unfolding all
+all-agree zero p q h = refl
+all-agree (suc n) p q h = ap₂ _&&_ (all-agree n p q (λ i l. h i (omega arith))) (h n (omega arith))

@@ -7,7 +7,7 @@ use mathlib.Core.List.{List, [], _∷_}
 use lib.ListN.{getD, take, drop}
 use lib.Seq.{take-nil, take-take, drop-drop, getD-take, getD-drop}
 use Rattle.rules.specs.Make.{gate}
-use Rattle.rules.specs.Blocks.{cut, orTree}
+use Rattle.rules.specs.Blocks.{cut, tree, orTree}
 use Rattle.gates.specs.Inner.Written.{Written}
 use Rattle.rules.proofs.Cuts.{size-cut}
 use Rattle.rules.proofs.Halves.{cut-single, cut-halves}
@@ -24,7 +24,7 @@ drop-take (suc k) (suc n) (x ∷ l) h =
 module _ (lines : List ℕ) (first made : ℕ) {start : List ℕ} where
   pub tree-one : (from count : ℕ) → count ≡ 1 →
       Written (orTree (cut count) (take count (drop from lines))) first made start start (getD lines from 0) (made + count - 1)
-  unfolding orTree
+  unfolding tree
   tree-one from count e =
       let here : getD (take 1 (drop from lines)) 0 0 ≡ getD lines from 0 =
       getD-take 1 (drop from lines) 0 0 (omega arith) ∙ getD-drop from lines 0 0 ∙ ap (λ (i : ℕ). getD lines i 0) (add-zero from) in
@@ -38,7 +38,7 @@ module _ (lines : List ℕ) (first made : ℕ) {start : List ℕ} where
       first (made + (count + 1) / 2 - 1) between later y (made + (count + 1) / 2 - 1 + (count - (count + 1) / 2) - 1) →
       Written (gate 1 x y) first (made + count - 2) later end z (made + count - 2 + 1) →
       Written (orTree (cut count) (take count (drop from lines))) first made start end z (made + count - 1)
-  unfolding orTree
+  unfolding tree
   tree-two {x = x} {y = y} from count more w s e =
       let half = (count + 1) / 2 in
       let left : take half (take count (drop from lines)) ≡ take half (drop from lines) =

@@ -6,7 +6,7 @@ use mathlib.Core.List.{List, _∷_}
 use lib.ListN.{length, getD}
 use Rattle.rules.specs.declared.Entry.{Entry}
 use Rattle.rules.specs.Make.{Make, return, _>>=_, gate, sequence}
-use Rattle.rules.specs.Blocks.{entryAt, Cut, one, two, cut, term, orTree, joined, productEntry}
+use Rattle.rules.specs.Blocks.{entryAt, Cut, one, two, cut, term, tree, orTree, joined, productEntry}
 use Rattle.rules.specs.Board.{lineOf}
 use Rattle.products.specs.Inner.Cells.{entryOf, matrixOf}
 use Rattle.products.proofs.Cells.{line-entry, cell-at}
@@ -49,7 +49,7 @@ term-real (line a) always = makes-return (line a)
 term-real (line a) (line b) = makes-bind makes-gate (λ x h. makes-return (line h))
 
 tree-real : (c : Cut) (x : ℕ) (ls : List ℕ) → 2 ≤ x → Makes (orTree c (x ∷ ls)) (λ y. 2 ≤ y)
-unfolding orTree
+unfolding tree
 tree-real one x ls h = makes-return h
 tree-real (two a b) x ls h =
     makes-bind {R = λ _. ℕ} (record { at = λ next _. next }) (λ y _.

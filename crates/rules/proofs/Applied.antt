@@ -8,7 +8,7 @@ use Rattle.diagram.specs.Diagram.{width, edgeAt, root}
 use Rattle.table.specs.Table.{padded, diagramOf, diagramIn}
 use Rattle.netlist.specs.declared.Gate.{Gate}
 use Rattle.rules.specs.Make.{_>>=_, sequence}
-use Rattle.rules.specs.Blocks.{cutWithin, cut, term, orTree, joined, productEntry, product, levelMatrix, block}
+use Rattle.rules.specs.Blocks.{cutWithin, cut, term, tree, joined, productEntry, product, levelMatrix, block}
 use Rattle.rules.specs.Board.{wholeBlock, boardOf, tableBoard}
 use Rattle.rules.specs.Formulas.{widestTo, widest, leastPower, log2up, gatesMost, depthMost}
 
@@ -47,5 +47,5 @@ pub chooser-board :
           ∷ AND 4 15 ∷ OR 5 31 ∷ AND 4 16 ∷ [];
       pairs = record { on = 30; off = 25 } ∷ record { on = 33; off = 32 } ∷ [];
     }
-unfolding any stepAt valueOf fieldsWithin fieldsFrom fieldsOf padded diagramOf flatMap width edgeAt root listed _>>=_ sequence cutWithin cut term orTree joined productEntry product levelMatrix block wholeBlock boardOf
+unfolding any stepAt valueOf fieldsWithin fieldsFrom fieldsOf padded diagramOf flatMap width edgeAt root listed _>>=_ sequence cutWithin cut term tree joined productEntry product levelMatrix block wholeBlock boardOf
 chooser-board = refl

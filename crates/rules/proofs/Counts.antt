@@ -1,4 +1,4 @@
--- How many gates are made: by an OR tree, an entry, a product.
+-- How many gates are made: by a tree, an entry, a product.
 use Prim.Native.Nat.{ℕ, zero, suc, _+_, _*_, _-_, _≤_}
 use native.Mathlib.Nat.{mul-le-mul, mul-assoc}
 use native.Mathlib.Omega.{arith}
@@ -8,7 +8,7 @@ use lib.ListN.{length, length-append, take, drop}
 use Rattle.rules.specs.declared.Entry.{Entry}
 use Rattle.rules.specs.declared.Entry.the-variants.{Never, Always, Line}
 use Rattle.rules.specs.Make.{Make, return, _>>=_, gate, sequence}
-use Rattle.rules.specs.Blocks.{Cut, one, two, size, cut, Matrix, entryAt, term, linesIn, orTree, joined, productEntry, product}
+use Rattle.rules.specs.Blocks.{Cut, one, two, size, cut, Matrix, entryAt, term, linesIn, tree, orTree, joined, productEntry, product}
 use Rattle.rules.specs.Formulas.{productMost}
 use Rattle.rules.proofs.Cuts.{size-cut}
 use Rattle.rules.proofs.Entries.{lines-few, entry-either}
@@ -43,13 +43,19 @@ sequence-count f k few (suc count) p =
     bind-count (few p) (λ i a le.
     bind-count (sequence-count f k few count (suc p)) (λ j made les. return-count (omega arith)))
 
+-- A tree each of whose joins makes k gates.
+pub tree-count : {A : Type 0} (none : A) (join : A → A → Make A) (k : ℕ) → ((x y : A) → Counts (join x y) (λ j _. j ≡ k)) →
+    (c : Cut) (xs : List A) → Counts (tree none join c xs) (λ j _. j + k ≡ size c * k)
+unfolding tree
+tree-count none join k each one xs = return-count (omega arith)
+tree-count none join k each (two a b) xs =
+    bind-count (tree-count none join k each a (take (size a) xs)) (λ h x p.
+    bind-count (tree-count none join k each b (drop (size a) xs)) (λ i y q.
+    weaken-count (each x y) (λ j z e. omega arith)))
+
 -- An OR tree of m terms makes m - 1 gates.
 pub or-count : (c : Cut) (ls : List ℕ) → Counts (orTree c ls) (λ k _. suc k ≡ size c)
-unfolding orTree
-or-count one ls = return-count (omega arith)
-or-count (two a b) ls =
-    bind-count (or-count a (take (size a) ls)) (λ i x p.
-    bind-count (or-count b (drop (size a) ls)) (λ j y q. gate-count (λ z. omega arith)))
+or-count c ls = weaken-count (tree-count 0 (gate 1) 1 (λ x y. gate-count (λ z. omega arith)) c ls) (λ k y e. omega arith)
 
 joined-count : (ls : List ℕ) → Most (length ls - 1) (joined ls)
 unfolding joined

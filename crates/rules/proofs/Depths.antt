@@ -1,5 +1,5 @@
 -- A rail or constant has depth 0, a gate one more than its deeper source; so a board is at most as deep as the formula says.
-use Prim.Native.Nat.{ℕ, suc, _+_, _-_, _≤_, _<_, max}
+use Prim.Native.Nat.{ℕ, zero, suc, _+_, _-_, _≤_, _<_, max}
 use native.Mathlib.Nat.{add-zero, le-of-eq, le-trans, mul-le-mul}
 use native.Mathlib.Decide.{decLt}
 use native.Mathlib.Omega.{arith}
@@ -27,7 +27,7 @@ module _ (net : Netlist) where
   abbrev first : ℕ
   first = gateLine (net .contacts)
 
-  depths-length : length (depthsOf net) ≡ lineCount net
+  pub depths-length : length (depthsOf net) ≡ lineCount net
   unfolding depthsOf
   depths-length = length-run _ _ _ ∙ simp (length-replicate, length-map)
 
@@ -37,7 +37,7 @@ module _ (net : Netlist) where
       run-first depthRule (map gate (net .gates)) (replicate first 0) x 0 (rw (length-replicate {A = ℕ} first 0) h)
       ∙ getD-replicate first x 0 0 h
 
-  gate-depth : (g : ℕ) → g < length (net .gates) →
+  pub gate-depth : (g : ℕ) → g < length (net .gates) →
       let x = first + g in
       let at = getD (net .gates) g anyGate in
       at .left < x → at .right < x → depthAt net x ≡ suc (max (depthAt net (at .left)) (depthAt net (at .right)))
@@ -45,7 +45,12 @@ module _ (net : Netlist) where
   gate-depth g h =
       rw (length-replicate {A = ℕ} first 0, add-zero first) at (gate-obeys depthRule [] (net .gates) (replicate first 0) g anyGate h)
 
-largest-most : (xs : List ℕ) (e : ℕ) → ((i : ℕ) → i < length xs → getD xs i 0 ≤ e) → largest xs ≤ e
+pub largest-at : (xs : List ℕ) (i : ℕ) → getD xs i 0 ≤ largest xs
+largest-at [] i = omega arith
+largest-at (x ∷ xs) zero = omega arith
+largest-at (x ∷ xs) (suc i) = omega (arith, largest-at xs i)
+
+pub largest-most : (xs : List ℕ) (e : ℕ) → ((i : ℕ) → i < length xs → getD xs i 0 ≤ e) → largest xs ≤ e
 largest-most [] e h = omega arith
 largest-most (x ∷ xs) e h = omega (arith, h 0 (omega arith), largest-most xs e (λ i l. h (suc i) (omega arith)))
 

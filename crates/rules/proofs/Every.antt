@@ -1,7 +1,8 @@
 -- Lists whose every member has something.
-use Prim.Native.Nat.{ℕ, zero, suc}
+use native.Mathlib.Omega.{arith}
+use Prim.Native.Nat.{ℕ, zero, suc, _<_}
 use mathlib.Core.List.{List, [], _∷_}
-use lib.ListN.{getD, take, drop}
+use lib.ListN.{length, getD, take, drop}
 
 pub data Every {A : Type 0} (S : A → Type 0) : List A → Type 0 where
   none : Every S []
@@ -16,6 +17,10 @@ module _ {A : Type 0} {S : A → Type 0} where
   every-at none q i = q
   every-at (more s e) q zero = s
   every-at (more s e) q (suc i) = every-at e q i
+
+  pub every-by : (xs : List A) (a : A) → ((i : ℕ) → i < length xs → S (getD xs i a)) → Every S xs
+  every-by [] a h = none
+  every-by (x ∷ xs) a h = more (h 0 (omega arith)) (every-by xs a (λ i l. h (suc i) (omega arith)))
 
   pub every-take : (k : ℕ) {xs : List A} → Every S xs → Every S (take k xs)
   every-take zero e = none

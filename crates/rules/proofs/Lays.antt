@@ -1,16 +1,18 @@
 -- What holds of the gates that are made: their kinds, where their sources lie, and how deep they are.
-use Prim.Native.Nat.{ℕ, zero, suc, _+_, _-_, _≤_, _<_, max}
-use native.Mathlib.Nat.{add-zero, add-assoc}
+use Prim.Native.Nat.{ℕ, zero, suc, _+_, _*_, _-_, _≤_, _<_, max}
+use native.Mathlib.Nat.{add-zero, add-assoc, mul-le-mul-right}
 use native.Mathlib.Decide.{decLt}
 use native.Mathlib.Omega.{arith}
 use mathlib.Core.Path.{_≡_, refl, ap}
 use mathlib.Core.List.{List, _++_}
-use lib.ListN.{length, getD, length-append, List·getD-append}
+use lib.ListN.{length, getD, length-append, length-take, length-drop, List·getD-append}
 use lib.Seq.{getD-append-add}
 use Rattle.netlist.specs.declared.Gate.{Gate}
 use Rattle.rules.specs.Make.{Make, return, _>>=_, gate, sequence}
+use Rattle.rules.specs.Blocks.{Cut, one, two, size, tree}
 use Rattle.rules.proofs.Makes.{anyGate, Each, each-left, each-right}
-use Rattle.rules.proofs.Every.{Every, none, more}
+use Rattle.rules.proofs.Every.{Every, none, more, every-map, every-take, every-drop}
+use Rattle.rules.proofs.Heights.{height}
 
 -- Line x has S, lies below line next, and has at most depth e.
 pub record Lies (S : ℕ → Type 0) (δ : ℕ → ℕ) (e next x : ℕ) : Type 0 where
@@ -29,7 +31,7 @@ pub record LaidGate (S : ℕ → Type 0) (δ : ℕ → ℕ) (most x : ℕ) (g : 
   pub right : S (g .right) × (g .right < x)
   pub depth : δ x ≤ most
 
-each-join : {P : ℕ → Gate → Type 0} {next : ℕ} (a b : List Gate) → Each P next a → Each P (next + length a) b →
+pub each-join : {P : ℕ → Gate → Type 0} {next : ℕ} (a b : List Gate) → Each P next a → Each P (next + length a) b →
     Each P next (a ++ b)
 each-join {P} {next} a b ea eb = record { has = λ i h. go i (omega (arith, length-append a b)) (decLt i (length a)) }
   where
@@ -87,3 +89,25 @@ module _ {S : ℕ → Type 0} {δ : ℕ → ℕ} {most : ℕ} where
       lays-bind (o p next (omega arith) (omega arith)) (λ mid a h s.
       lays-bind (lays-sequence stays f count (suc p) mid (λ q n h' h''. o q n (omega arith) (omega arith))) (λ end made h' (all, e).
       lays-return (more (stays mid end a h' s) all, ap suc e)))
+
+-- A tree of elements of which L says how deep they are and below which line they lie, if each join is k deeper.
+module _ {S : ℕ → Type 0} {δ : ℕ → ℕ} {most : ℕ} {A : Type 0} (L : ℕ → ℕ → A → Type 0)
+    (stays : (e f n m : ℕ) (a : A) → e ≤ f → n ≤ m → L e n a → L f m a) (other : A) (join : A → A → Make A) (k : ℕ)
+    (joins : (e next : ℕ) (x y : A) → L e next x → L e next y → e + k ≤ most →
+    Lays S δ most (join x y) next (λ end z. L (e + k) end z)) where
+  pub lays-tree : {e next : ℕ} (c : Cut) {xs : List A} → Every (L e next) xs → length xs ≡ size c → e + height c * k ≤ most →
+      Lays S δ most (tree other join c xs) next (λ end x. L (e + height c * k) end x)
+  unfolding tree
+  lays-tree one none p fits = absurd (omega arith)
+  lays-tree one (more s all) p fits = lays-return (stays _ _ _ _ _ (omega arith) (omega arith) s)
+  lays-tree {e} (two a b) {xs} all p fits =
+      let h = max (height a) (height b) in
+      let ha : height a * k ≤ h * k = mul-le-mul-right k (omega arith) in
+      let hb : height b * k ≤ h * k = mul-le-mul-right k (omega arith) in
+      lays-bind (lays-tree a (every-take (size a) all) (omega (arith, length-take (size a) xs)) (omega arith)) (λ mid x l lx.
+      lays-bind
+      (lays-tree b (every-map (λ z. stays e e _ mid z (omega arith) l) (every-drop (size a) all))
+      (omega (arith, length-drop (size a) xs)) (omega arith)) (λ end y l' ly.
+      lays-weaken
+      (joins (e + h * k) end x y (stays _ _ _ _ x (omega arith) l' lx) (stays _ _ _ _ y (omega arith) (omega arith) ly) (omega arith))
+      (λ n z l'' lz. stays _ _ _ _ z (omega arith) (omega arith) lz)))

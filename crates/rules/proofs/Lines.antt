@@ -5,19 +5,19 @@ use native.Mathlib.Nat.{mul-le-mul-right}
 use native.Mathlib.Omega.{arith}
 use mathlib.Core.Path.{_≡_}
 use mathlib.Core.List.{List}
-use lib.ListN.{length, length-take, length-drop}
+use lib.ListN.{length}
 use Rattle.diagram.specs.declared.Diagram.{Diagram}
 use Rattle.diagram.specs.Diagram.{width}
 use Rattle.diagram.proofs.Paths.{Branches}
 use Rattle.netlist.specs.Netlist.{gateLine}
 use Rattle.rules.specs.declared.Entry.{Entry}
-use Rattle.rules.specs.Make.{Make, return, sequence}
+use Rattle.rules.specs.Make.{Make, return, gate, sequence}
 use Rattle.rules.specs.Blocks.{Cut, one, two, size, cut, Matrix, entryAt, levelEntry, term, orTree, joined, productEntry, product, levelMatrix, block}
 use Rattle.rules.proofs.Cuts.{size-cut}
 use Rattle.rules.proofs.Heights.{height, height-cut}
-use Rattle.rules.proofs.Every.{Every, none, more, every-map, every-at, every-take, every-drop}
+use Rattle.rules.proofs.Every.{Every, none, more, every-map, every-at}
 use Rattle.rules.proofs.Entries.{OfLine, never, always, line, of-map, of-lines, lines-few, entry-either, node-entry}
-use Rattle.rules.proofs.Lays.{Lies, Lays, lays-return, lays-bind, lays-weaken, lays-gate, lays-sequence}
+use Rattle.rules.proofs.Lays.{Lies, Lays, lays-return, lays-bind, lays-weaken, lays-gate, lays-sequence, lays-tree}
 
 -- A matrix whose lines have S, lie below line next and have at most depth e.
 abbrev pub MatrixLies : (ℕ → Type 0) → (ℕ → ℕ) → ℕ → ℕ → Matrix → Type 0
@@ -25,11 +25,8 @@ MatrixLies S δ e next m = Every (Every (OfLine (Lies S δ e next))) m
 
 -- What holds for a line and a depth, holds for later lines and greater depths.
 module _ {S : ℕ → Type 0} {δ : ℕ → ℕ} {e f n k : ℕ} (deeper : e ≤ f) (later : n ≤ k) where
-  lies-on : {x : ℕ} → Lies S δ e n x → Lies S δ f k x
+  pub lies-on : {x : ℕ} → Lies S δ e n x → Lies S δ f k x
   lies-on l = record { has = l .has; below = omega arith; depth = omega arith }
-
-  lines-on : {ls : List ℕ} → Every (Lies S δ e n) ls → Every (Lies S δ f k) ls
-  lines-on all = every-map (λ x l. lies-on l) all
 
   entry-on : {t : Entry} → OfLine (Lies S δ e n) t → OfLine (Lies S δ f k) t
   entry-on o = of-map (λ x l. lies-on l) o
@@ -56,18 +53,12 @@ module _ {S : ℕ → Type 0} {δ : ℕ → ℕ} {most : ℕ} where
 
   or-lays : {e next : ℕ} (c : Cut) {ls : List ℕ} → Every (Lies S δ e next) ls → length ls ≡ size c → e + height c ≤ most →
       Lays S δ most (orTree c ls) next (λ end x. Lies S δ (e + height c) end x)
-  unfolding orTree
-  or-lays one none p fits = absurd (omega arith)
-  or-lays one (more s all) p fits = lays-return (lies-on (omega arith) (omega arith) s)
-  or-lays {e} (two a b) {ls} all p fits =
-      lays-bind (or-lays a (every-take (size a) all) (omega (arith, length-take (size a) ls)) (omega arith)) (λ mid x h lx.
-      lays-bind
-      (or-lays b (lines-on {f = e} (omega arith) h (every-drop (size a) all)) (omega (arith, length-drop (size a) ls))
-      (omega arith)) (λ end y h' ly.
+  or-lays c all p fits =
       lays-weaken
-      (lays-gate {e = e + max (height a) (height b)} (omega arith) (lies-on (omega arith) (omega arith) lx)
-      (lies-on (omega arith) (omega arith) ly) (omega arith))
-      (λ n z h'' l. lies-on (omega arith) (omega arith) l)))
+      (lays-tree (Lies S δ) (λ e f n k x deeper later l. lies-on deeper later l) 0 (gate 1) 1 (λ e next x y lx ly h.
+      lays-weaken (lays-gate (omega arith) lx ly (omega arith)) (λ end z h' l. lies-on (omega arith) (omega arith) l))
+      c all p (omega arith))
+      (λ end x h l. lies-on (omega arith) (omega arith) l)
 
   joined-lays : {e next : ℕ} (b : ℕ) {ls : List ℕ} → Every (Lies S δ e next) ls → length ls ≤ 2 ^ b → e + b ≤ most →
       Lays S δ most (joined ls) next (λ end t. OfLine (Lies S δ (e + b) end) t)

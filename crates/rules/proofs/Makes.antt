@@ -4,10 +4,11 @@ use native.Mathlib.Nat.{add-zero, add-assoc}
 use native.Mathlib.Omega.{arith}
 use mathlib.Core.Path.{_≡_, refl, ap}
 use mathlib.Core.List.{List, [], _++_}
-use lib.ListN.{length, getD, length-append, List·getD-append}
+use lib.ListN.{length, getD, take, drop, length-append, List·getD-append}
 use lib.Seq.{getD-append-add}
 use Rattle.netlist.specs.declared.Gate.{Gate}
 use Rattle.rules.specs.Make.{Make, return, _>>=_, gate, sequence}
+use Rattle.rules.specs.Blocks.{Cut, one, two, size, tree}
 
 -- What stands for a gate where a list has none.
 abbrev pub anyGate : Gate
@@ -90,3 +91,14 @@ ok-table none f {Q} rows columns o =
     (ok-sequence [] (λ u. sequence (f u) columns 0) {Q = λ u r. Made (Q u) none columns 0 r} rows 0 (λ u _ h.
     ok-sequence none (f u) columns 0 (λ v _ h'. o u v (omega arith) (omega arith))))
     (λ m r u v h h'. r .at u u h (omega arith) .at v v h' (omega arith))
+
+-- What is made in a tree: Q says what so many elements of a list are joined to.
+module _ {P : ℕ → Gate → Type 0} {A : Type 0} (none : A) (join : A → A → Make A) (Q : ℕ → List A → A → Type 0)
+    (single : (xs : List A) → Q 1 xs (getD xs 0 none))
+    (both : (k m : ℕ) (xs : List A) (x y : A) → Q k (take k xs) x → Q m (drop k xs) y → Ok P (join x y) (Q (k + m) xs)) where
+  pub ok-tree : (c : Cut) (xs : List A) → Ok P (tree none join c xs) (Q (size c) xs)
+  unfolding tree
+  ok-tree one xs = ok-return (single xs)
+  ok-tree (two a b) xs =
+      ok-bind (ok-tree a (take (size a) xs)) (λ x qx.
+      ok-bind (ok-tree b (drop (size a) xs)) (λ y qy. both (size a) (size b) xs x y qx qy))

@@ -7,8 +7,9 @@ use mathlib.Core.List.{List, [], _∷_}
 use mathlib.Core.Logic.{_⊎_, inl, inr, ⊎-map}
 use lib.ListN.{length, getD, take, drop}
 use lib.Seq.{getD-take, getD-drop}
-use Rattle.rules.specs.Blocks.{Cut, one, two, size, cut, orTree, joined}
-use Rattle.rules.proofs.Makes.{Ok, ok-return, ok-bind, ok-gate}
+use Rattle.rules.specs.Make.{gate}
+use Rattle.rules.specs.Blocks.{Cut, size, cut, orTree, joined}
+use Rattle.rules.proofs.Makes.{Ok, ok-return, ok-bind, ok-gate, ok-tree}
 use Rattle.rules.proofs.Valuations.{Down, Up, shows}
 use Rattle.rules.proofs.Cuts.{size-cut}
 
@@ -30,20 +31,14 @@ module _ (ν : ℕ → ℕ) where
           let p : k + (i - k) ≡ i = omega arith in inr (i - k, omega arith, rw (getD-drop k ls (i - k) 0, p) e)
 
   pub tree-down : (c : Cut) (ls : List ℕ) → Ok (Down ν) (orTree c ls) (λ y. ν y ≡ 1 → Some ν (size c) ls)
-  unfolding orTree
-  tree-down one ls = ok-return (λ e. (0, omega arith, e))
-  tree-down (two a b) ls =
-      ok-bind (tree-down a (take (size a) ls)) (λ x left.
-      ok-bind (tree-down b (drop (size a) ls)) (λ y right.
-      ok-gate (λ z down e. join (size a) (size b) ls (⊎-map left right (down e)))))
+  tree-down =
+      ok-tree 0 (gate 1) (λ k ls y. ν y ≡ 1 → Some ν k ls) (λ ls e. (0, omega arith, e))
+      (λ k m ls x y left right. ok-gate (λ z down e. join k m ls (⊎-map left right (down e))))
 
   pub tree-up : (c : Cut) (ls : List ℕ) → Ok (Up ν) (orTree c ls) (λ y. Some ν (size c) ls → ν y ≡ 1)
-  unfolding orTree
-  tree-up one ls = ok-return (λ (i, h, e). let p : i ≡ 0 = omega arith in rw p at e)
-  tree-up (two a b) ls =
-      ok-bind (tree-up a (take (size a) ls)) (λ x left.
-      ok-bind (tree-up b (drop (size a) ls)) (λ y right.
-      ok-gate (λ z up s. up (⊎-map left right (split (size a) (size b) ls s)))))
+  tree-up =
+      ok-tree 0 (gate 1) (λ k ls y. Some ν k ls → ν y ≡ 1) (λ ls (i, h, e). let p : i ≡ 0 = omega arith in rw p at e)
+      (λ k m ls x y left right. ok-gate (λ z up s. up (⊎-map left right (split k m ls s))))
 
   pub joined-down : (ls : List ℕ) → Ok (Down ν) (joined ls) (λ y. shows ν y ≡ 1 → Some ν (length ls) ls)
   unfolding joined

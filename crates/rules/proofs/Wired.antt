@@ -8,13 +8,14 @@ use lib.ListN.{length, getD}
 use Rattle.diagram.specs.declared.Diagram.{Diagram}
 use Rattle.diagram.specs.Diagram.{root}
 use Rattle.diagram.proofs.Paths.{Branches}
-use Rattle.netlist.specs.Netlist.{gateLine, lineCount}
-use Rattle.netlist.proofs.Tests.{Wired, PairsWired}
+use Rattle.netlist.specs.declared.Gate.{Gate}
+use Rattle.netlist.specs.Netlist.{Netlist, gateLine, lineCount}
+use Rattle.netlist.proofs.Tests.{GateOn, Wired, PairsWired}
 use Rattle.rules.specs.declared.Entry.{Entry}
 use Rattle.rules.specs.Blocks.{cut, entryAt}
 use Rattle.rules.specs.Board.{lineOf, wholeBlock, boardOf}
 use Rattle.rules.specs.Formulas.{widest, log2up, depthMost}
-use Rattle.rules.proofs.Makes.{anyGate, Each}
+use Rattle.rules.proofs.Makes.{anyGate, Each, each-weaken}
 use Rattle.rules.proofs.Cuts.{size-cut}
 use Rattle.rules.proofs.Heights.{height, height-cut}
 use Rattle.rules.proofs.Pairs.{pairs-length, pairs-at}
@@ -32,6 +33,12 @@ any-default : {A : Type 0} (l : List A) (i : ℕ) (a b : A) → i < length l →
 any-default [] i a b h = absurd (not-suc-le-zero h)
 any-default (v ∷ l) zero a b h = refl
 any-default (v ∷ l) (suc i) a b h = any-default l i a b (le-of-suc-le-suc h)
+
+pub each-wired : (net : Netlist) → Each GateOn (gateLine (net .contacts)) (net .gates) → Wired net
+each-wired net each g other h = rw (any-default (net .gates) g other anyGate h) (each .has g h)
+
+pub laid-on : {S : ℕ → Type 0} {δ : ℕ → ℕ} {most : ℕ} (x : ℕ) (g : Gate) → LaidGate S δ most x g → GateOn x g
+laid-on x g l = record { kind = l .kind; left = l .left .1; right = l .right .1 }
 
 module _ (d : Diagram) (some : 1 ≤ d .contacts) where
   -- For any depths of the lines that are 0 at the rails and rise by one at most from gate to gate, and any S that the gates' lines
@@ -63,9 +70,7 @@ module _ (d : Diagram) (some : 1 ≤ d .contacts) where
 
   pub board-wired : Wired (boardOf d)
   unfolding boardOf
-  board-wired g other h =
-      let w = gates-wired g h in
-      rw (any-default (boardOf d .gates) g other anyGate h) (record { kind = w .0; left = w .1; right = w .2 })
+  board-wired = each-wired (boardOf d) (each-weaken laid-on (flat .0))
 
   pub entry-wired : (u v : ℕ) → lineOf (entryAt (wholeBlock d .1) u v) < lineCount (boardOf d)
   entry-wired u v = line-below (omega arith) (table-at (flat .1) u v)

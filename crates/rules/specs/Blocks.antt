@@ -72,13 +72,17 @@ linesIn (Never ∷ ts) = linesIn ts
 linesIn (Always ∷ ts) = linesIn ts
 linesIn (Line x ∷ ts) = x ∷ linesIn ts
 
+-- Elements joined two by two as a count is cut: what each part makes comes first, then the join of the two.
+unfoldable pub tree : {A : Type 0} → A → (A → A → Make A) → Cut → List A → Make A
+tree none join one xs = return (getD xs 0 none)
+tree none join (two a b) xs = do
+  x ← tree none join a (take (size a) xs)
+  y ← tree none join b (drop (size a) xs)
+  join x y
+
 -- Each part's ORs come first, then the OR of the two.
-unfoldable pub orTree : Cut → List ℕ → Make ℕ
-orTree one ls = return (getD ls 0 0)
-orTree (two a b) ls = do
-  x ← orTree a (take (size a) ls)
-  y ← orTree b (drop (size a) ls)
-  gate 1 x y
+abbrev pub orTree : Cut → List ℕ → Make ℕ
+orTree = tree 0 (gate 1)
 
 -- Terms left over are joined by ORs; no term left means never.
 unfoldable pub joined : List ℕ → Make Entry

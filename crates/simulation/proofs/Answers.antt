@@ -1,14 +1,16 @@
 -- What a yes to each of questions 13 and 14 says, and that lines can be worked out after them.
-use borrow.Author.Tests.{eqb-true}
+use borrow.Author.Tests.{eqb-true, leb-true}
+use native.Mathlib.Decide.{decLt}
 use native.Mathlib.Omega.{arith}
 use Prim.Native.Nat.{ℕ, _+_, _*_, _/_, _%_, _≤_}
 use mathlib.Core.Path.{_≡_, refl}
 use mathlib.Core.Bool.{Bool, true, false, _&&_, cond}
 use mathlib.Core.List.{List}
+use mathlib.Core.Logic.{by-cases}
 use lib.Dec.{eqb}
-use lib.ListN.{length}
+use lib.ListN.{length, getD, List·getD-eq-default}
 use Rattle.fields.specs.Bounded.{all}
-use Rattle.fields.proofs.Bounded.{all-of}
+use Rattle.fields.proofs.Bounded.{all-at, all-of}
 use Rattle.netlist.specs.declared.drive.Rails.the-variants.{Driven, Undriven}
 use Rattle.netlist.specs.declared.drive.Holds.the-variants.{Ordered, Disordered}
 use Rattle.files.specs.declared.room.Room.the-variants.{Enough}
@@ -27,6 +29,16 @@ driven n rails = go (eqb (length rails) (2 * n)) (all (2 * n) (isBit rails)) ref
     go : (a b : Bool) → eqb (length rails) (2 * n) ≡ a → cond (a && b) Driven Undriven ≡ Driven → length rails ≡ 2 * n
     go true b t e = eqb-true _ _ t
     go false b t e = absurd (let z : _≡_ {A = ℕ} 0 1 = cc in omega arith)
+
+pub driven-bits : (n : ℕ) (rails : List ℕ) → railsOf n rails ≡ Driven → (i : ℕ) → getD rails i 0 ≤ 1
+driven-bits n rails e i =
+    by-cases (decLt i (2 * n)) (λ l. leb-true _ _ (all-at (isBit rails) (2 * n) (go (eqb (length rails) (2 * n)) (all (2 * n) (isBit rails)) e) i l))
+    (λ g. rw (List·getD-eq-default rails 0 (let h : length rails ≤ i = omega (arith, driven n rails e) in h)) (omega arith))
+  where
+    go : (a b : Bool) → cond (a && b) Driven Undriven ≡ Driven → b ≡ true
+    go true true e = refl
+    go true false e = absurd (let z : _≡_ {A = ℕ} 0 1 = cc in omega arith)
+    go false b e = absurd (let z : _≡_ {A = ℕ} 0 1 = cc in omega arith)
 
 pub ordered : (lines : ℕ) (holds : List ℕ) → orderOf lines holds ≡ Ordered → areHolds lines holds ≡ true
 unfolding areOrdered

@@ -1,9 +1,10 @@
 -- Values are 0 or 1; with holds all at 0 each line is at most what it is with none, with holds all at 1 at least.
 use native.Mathlib.Omega.{arith}
 use Prim.Native.Nat.{ℕ, suc, min, max, _≤_}
-use mathlib.Core.Path.{_≡_}
+use mathlib.Core.Path.{_≡_, refl}
 use mathlib.Core.Bool.{Bool, true, false, cond}
 use mathlib.Core.List.{List, [], _∷_}
+use borrow.Author.Tests.{ne-eqb}
 use lib.Dec.{eqb}
 use lib.ListN.{getD}
 use Rattle.fields.proofs.Every.{Every}
@@ -24,6 +25,12 @@ held-by P Q f (h ∷ hs) a x v p = go (eqb (h .line) x) (f _ (a .0)) (held-by P 
     go : (b : Bool) → P (h .value) → P (held hs x v) → P (cond b (h .value) (held hs x v))
     go true y n = y
     go false y n = n
+
+-- A line that no hold names shows what is made.
+pub held-elsewhere : (hs : List Hold) → (x v : ℕ) → Every (λ (h : Hold). h .line ≡ x → ⊥) hs → held hs x v ≡ v
+unfolding held
+held-elsewhere [] x v e = refl
+held-elsewhere (h ∷ hs) x v (ne, e) = simp (ne-eqb _ _ ne) (held-elsewhere hs x v e)
 
 -- A gate of greater values makes a greater one, and of the values 0 and 1 one of them.
 gate-mono : (k a c b d : ℕ) → a ≤ b → c ≤ d → gateOf k a c ≤ gateOf k b d
