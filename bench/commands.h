@@ -16,6 +16,7 @@ struct request {
     const char *output; /* -o */
     bool lines;         /* --lines */
     bool all;           /* --all */
+    bool lamp;          /* --lamp */
     enum format format;
     struct file file[2]; /* those loaded so far */
     int files;

@@ -4,17 +4,30 @@
 
 static const char *const rail_names[] = {"true", "false"};
 
-/* The line of an output's rail. */
-static unsigned output_line(const struct netlist *netlist, unsigned output, unsigned rail)
+/* The line of one rail of a pair. */
+static unsigned pair_line(const struct netlist *netlist, unsigned pair, unsigned rail)
 {
-    struct pair pair = pair_at(netlist, output);
-    return rail == 0 ? pair.yes : pair.no;
+    struct pair lines = pair_at(netlist, pair);
+    return rail == 0 ? lines.yes : lines.no;
+}
+
+/* What a pair is called: output0 and so on, or lamp; `between` stands before the number. */
+struct pair_name {
+    char text[24];
+};
+
+static struct pair_name name_of(const struct netlist *netlist, unsigned pair, const char *between)
+{
+    struct pair_name name = {"lamp"};
+    if (!is_lamp(netlist, pair))
+        snprintf(name.text, sizeof name.text, "output%s%u", between, pair);
+    return name;
 }
 
 static void write_title(FILE *out, const char *mark, const struct netlist *netlist)
 {
-    fprintf(out, "%s Pilgodur " PILGODUR_VERSION ": a permit board, contacts %u, gates %u, outputs %u.\n", mark,
-            netlist->contacts, netlist->gates, netlist->outputs);
+    fprintf(out, "%s Pilgodur " PILGODUR_VERSION ": a permit board, contacts %u, gates %u, outputs %u%s.\n", mark,
+            netlist->contacts, netlist->gates, netlist->outputs, netlist->lamp != NULL ? ", with lamp" : "");
     fprintf(out, "%s Line 8 is the net l8. Lines 0 and 1 are the constants.\n", mark);
 }
 
@@ -28,8 +41,8 @@ static void blif_ports(FILE *out, const struct netlist *netlist)
     for (unsigned line = 2; line < first_gate(netlist); line++)
         fprintf(out, " l%u", line);
     fprintf(out, "\n.outputs");
-    for (unsigned j = 0; j < netlist->outputs; j++)
-        fprintf(out, " output%u_true output%u_false", j, j);
+    for (unsigned j = 0; j < pairs_of(netlist); j++)
+        fprintf(out, " %s_true %s_false", name_of(netlist, j, "").text, name_of(netlist, j, "").text);
     fprintf(out, "\n");
 }
 
@@ -54,9 +67,9 @@ static void write_blif(FILE *out, const struct netlist *netlist)
         struct gate gate = gate_at(netlist, g);
         blif_gate(out, &gate, first_gate(netlist) + g);
     }
-    for (unsigned j = 0; j < netlist->outputs; j++)
+    for (unsigned j = 0; j < pairs_of(netlist); j++)
         for (unsigned rail = 0; rail < 2; rail++)
-            fprintf(out, ".names l%u output%u_%s\n1 1\n", output_line(netlist, j, rail), j, rail_names[rail]);
+            fprintf(out, ".names l%u %s_%s\n1 1\n", pair_line(netlist, j, rail), name_of(netlist, j, "").text, rail_names[rail]);
     fprintf(out, ".end\n");
 }
 
@@ -67,8 +80,10 @@ static void verilog_ports(FILE *out, const struct netlist *netlist)
     fprintf(out, "module permit_board (\n");
     for (unsigned line = 2; line < first_gate(netlist); line++)
         fprintf(out, "  input wire l%u, // contact %u, %s rail\n", line, line / 2 - 1, rail_names[line % 2]);
-    for (unsigned j = 0; j < netlist->outputs; j++)
-        fprintf(out, "  output wire output%u_true,\n  output wire output%u_false%s\n", j, j, j + 1 < netlist->outputs ? "," : "");
+    for (unsigned j = 0; j < pairs_of(netlist); j++) {
+        struct pair_name name = name_of(netlist, j, "");
+        fprintf(out, "  output wire %s_true,\n  output wire %s_false%s\n", name.text, name.text, j + 1 < pairs_of(netlist) ? "," : "");
+    }
     fprintf(out, ");\n");
 }
 
@@ -86,9 +101,9 @@ static void write_verilog(FILE *out, const struct netlist *netlist)
         unsigned line = first_gate(netlist) + g;
         fprintf(out, "  %s g%u (l%u, l%u, l%u);\n", is_or(&gate) ? "or" : "and", line, line, gate.first, gate.second);
     }
-    for (unsigned j = 0; j < netlist->outputs; j++)
+    for (unsigned j = 0; j < pairs_of(netlist); j++)
         for (unsigned rail = 0; rail < 2; rail++)
-            fprintf(out, "  assign output%u_%s = l%u;\n", j, rail_names[rail], output_line(netlist, j, rail));
+            fprintf(out, "  assign %s_%s = l%u;\n", name_of(netlist, j, "").text, rail_names[rail], pair_line(netlist, j, rail));
     fprintf(out, "endmodule\n");
 }
 
@@ -104,6 +119,16 @@ static void dot_gates(FILE *out, const struct netlist *netlist)
     }
 }
 
+static void dot_pairs(FILE *out, const struct netlist *netlist)
+{
+    for (unsigned j = 0; j < pairs_of(netlist); j++)
+        for (unsigned rail = 0; rail < 2; rail++) {
+            struct pair_name name = name_of(netlist, j, ""), label = name_of(netlist, j, " ");
+            fprintf(out, "  %s_%s [shape=plaintext, label=\"%s %s\"];\n", name.text, rail_names[rail], label.text, rail_names[rail]);
+            fprintf(out, "  l%u -> %s_%s;\n", pair_line(netlist, j, rail), name.text, rail_names[rail]);
+        }
+}
+
 static void write_dot(FILE *out, const struct netlist *netlist)
 {
     write_title(out, "//", netlist);
@@ -114,11 +139,7 @@ static void write_dot(FILE *out, const struct netlist *netlist)
     for (unsigned line = 2; line < first_gate(netlist); line++)
         fprintf(out, "  l%u [shape=plaintext, label=\"%u contact %u %s\"];\n", line, line, line / 2 - 1, rail_names[line % 2]);
     dot_gates(out, netlist);
-    for (unsigned j = 0; j < netlist->outputs; j++)
-        for (unsigned rail = 0; rail < 2; rail++) {
-            fprintf(out, "  output%u_%s [shape=plaintext, label=\"output %u %s\"];\n", j, rail_names[rail], j, rail_names[rail]);
-            fprintf(out, "  l%u -> output%u_%s;\n", output_line(netlist, j, rail), j, rail_names[rail]);
-        }
+    dot_pairs(out, netlist);
     fprintf(out, "}\n");
 }
 
@@ -127,7 +148,7 @@ enum status export_netlist(struct request *request, FILE *out)
     static uint8_t room[PILGODUR_FILE_MAX];
     if (request->format == NO_FORMAT)
         fail(MISUSED, "export: choose --blif, --verilog or --dot; see pilgodur --help");
-    struct netlist netlist = netlist_in_or_of(load_operand(request, 0), room);
+    struct netlist netlist = netlist_in_or_of(load_operand(request, 0), request->lamp, room);
     if (request->format == BLIF)
         write_blif(out, &netlist);
     else if (request->format == VERILOG)

@@ -5,7 +5,7 @@
 #include "../include/pilgodur.h"
 #include "../tests/drawings.h"
 
-enum { MOST_GATES = 10560, BUFFER = PILGODUR_SHEET_MAX }; /* a sheet is longer than what any other service writes */
+enum { MOST_GATES = 10560, BUFFER = PILGODUR_SHEET_MAX }; /* of a board without lamp; a sheet is longer than all else that is written */
 
 struct job {
     uint8_t table[TABLE_MAX];

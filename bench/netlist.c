@@ -2,7 +2,7 @@
 
 #include "report.h"
 
-enum { CONTACTS = 1, GATES = 4, OUTPUTS = 5, MOST_CONTACTS = 12 }; /* tags, and a limit */
+enum { CONTACTS = 1, GATES = 4, OUTPUTS = 5, LAMP = 6, MOST_CONTACTS = 12 }; /* tags, and a limit */
 
 unsigned two_bytes(const uint8_t *at)
 {
@@ -19,15 +19,25 @@ unsigned lines_of(const struct netlist *netlist)
     return first_gate(netlist) + netlist->gates;
 }
 
+unsigned pairs_of(const struct netlist *netlist)
+{
+    return netlist->outputs + (netlist->lamp != NULL);
+}
+
+bool is_lamp(const struct netlist *netlist, unsigned pair)
+{
+    return pair == netlist->outputs;
+}
+
 struct gate gate_at(const struct netlist *netlist, unsigned gate)
 {
     const uint8_t *at = netlist->gate + 5 * gate;
     return (struct gate){at[0] == 0 ? "AND" : "OR", two_bytes(at + 1), two_bytes(at + 3)};
 }
 
-struct pair pair_at(const struct netlist *netlist, unsigned output)
+struct pair pair_at(const struct netlist *netlist, unsigned pair)
 {
-    const uint8_t *at = netlist->output + 4 * output;
+    const uint8_t *at = is_lamp(netlist, pair) ? netlist->lamp : netlist->output + 4 * pair;
     return (struct pair){two_bytes(at), two_bytes(at + 2)};
 }
 
@@ -43,7 +53,7 @@ bool is_read(const struct netlist *netlist, unsigned line)
         if (gate.first == line || gate.second == line)
             return true;
     }
-    for (unsigned j = 0; j < netlist->outputs; j++) {
+    for (unsigned j = 0; j < pairs_of(netlist); j++) {
         struct pair pair = pair_at(netlist, j);
         if (pair.yes == line || pair.no == line)
             return true;
@@ -66,6 +76,8 @@ static struct netlist view(const char *name, const uint8_t *bytes, size_t length
         } else if (bytes[at] == OUTPUTS) {
             netlist.outputs = size / 4;
             netlist.output = value;
+        } else if (bytes[at] == LAMP) {
+            netlist.lamp = value;
         }
     }
     return netlist;
@@ -84,16 +96,16 @@ struct netlist netlist_in(const struct file *file)
     return view(file->name, file->at, file->length);
 }
 
-struct netlist netlist_of(const struct file *table, uint8_t room[PILGODUR_FILE_MAX])
+struct netlist netlist_of(const struct file *table, bool lamp, uint8_t room[PILGODUR_FILE_MAX])
 {
-    pilgodur_built built = pilgodur_build(table->at, table->length, room, PILGODUR_FILE_MAX);
+    pilgodur_built built = (lamp ? pilgodur_build_with_lamp : pilgodur_build)(table->at, table->length, room, PILGODUR_FILE_MAX);
     if (built.refusal != 0)
         refuse(built.refusal, "%s", table->name);
     return view(table->name, room, built.length);
 }
 
-struct netlist netlist_in_or_of(const struct file *file, uint8_t room[PILGODUR_FILE_MAX])
+struct netlist netlist_in_or_of(const struct file *file, bool lamp, uint8_t room[PILGODUR_FILE_MAX])
 {
     bool is_netlist = file->length > 4 && file->at[4] == GATES;
-    return is_netlist ? netlist_in(file) : netlist_of(file, room);
+    return is_netlist ? netlist_in(file) : netlist_of(file, lamp, room);
 }

@@ -13,7 +13,7 @@ static uint8_t lines[PILGODUR_LINES_MAX];
 enum status list(struct request *request, FILE *out)
 {
     static uint8_t text[PILGODUR_SHEET_MAX];
-    struct netlist netlist = netlist_in_or_of(load_operand(request, 0), room);
+    struct netlist netlist = netlist_in_or_of(load_operand(request, 0), request->lamp, room);
     pilgodur_built sheet = pilgodur_sheet(netlist.bytes, netlist.length, text, sizeof text);
     if (sheet.refusal != 0)
         refuse(sheet.refusal, "%s", netlist.name);
@@ -81,6 +81,8 @@ static void run_and_show(const struct request *request, const struct netlist *ne
         refuse(refusal, "%s with rails %s", netlist->name, rails->name);
     for (unsigned j = 0; j < netlist->outputs; j++)
         show_pair(out, j, pairs[2 * j], pairs[2 * j + 1]);
+    if (netlist->lamp != NULL)
+        show_lamp(out, pairs[2 * netlist->outputs], pairs[2 * netlist->outputs + 1]);
     if (request->lines)
         show_lines(out, lines, lines_of(netlist), holds->at, 3 * holds->count);
 }

@@ -31,7 +31,7 @@ enum status check(struct request *request, FILE *out)
 {
     const struct file *table = load_operand(request, 0);
     pilgodur_checked checked = checked_table(table);
-    struct netlist netlist = netlist_of(table, room);
+    struct netlist netlist = netlist_of(table, false, room);
     fprintf(out, "contacts %" PRIu32 "\noutputs %" PRIu32 "\ngates %" PRIu32 "\ndepth %" PRIu32 "\n", checked.contacts,
             checked.outputs, checked.gates, checked.depth);
     show_spare_contacts(out, &netlist);
@@ -40,7 +40,7 @@ enum status check(struct request *request, FILE *out)
 
 enum status build(struct request *request, FILE *out)
 {
-    struct netlist netlist = netlist_of(load_operand(request, 0), room);
+    struct netlist netlist = netlist_of(load_operand(request, 0), request->lamp, room);
     show_file(out, netlist.bytes, netlist.length, request->output == NULL);
     return ANSWERED;
 }

@@ -9,10 +9,10 @@
 #include "save.h"
 
 /* What stands for each option: its letter, or a number above all letters. */
-enum option_name { OUTPUT = 'o', HELP = 'h', VERSION = 'V', OPERAND = 1, LINES = 256, ALL, AS_BLIF, AS_VERILOG, AS_DOT };
+enum option_name { OUTPUT = 'o', HELP = 'h', VERSION = 'V', OPERAND = 1, LINES = 256, ALL, LAMP, AS_BLIF, AS_VERILOG, AS_DOT };
 
 /* The options of one command. */
-enum { TAKES_OUTPUT = 1, TAKES_LINES = 2, TAKES_ALL = 4, TAKES_FORMAT = 8 };
+enum { TAKES_OUTPUT = 1, TAKES_LINES = 2, TAKES_ALL = 4, TAKES_FORMAT = 8, TAKES_LAMP = 16 };
 
 static const struct {
     const char *name;
@@ -22,21 +22,22 @@ static const struct {
 } commands[] = {
     {"draw", draw, 1, 1, TAKES_OUTPUT},
     {"check", check, 1, 1, 0},
-    {"build", build, 1, 1, TAKES_OUTPUT},
-    {"list", list, 1, 1, 0},
-    {"compare", compare, 2, 2, TAKES_ALL},
+    {"build", build, 1, 1, TAKES_OUTPUT | TAKES_LAMP},
+    {"list", list, 1, 1, TAKES_LAMP},
+    {"compare", compare, 2, 2, TAKES_ALL | TAKES_LAMP},
     {"read-off", read_off, 2, 2, 0},
     {"run", run, 2, INT_MAX, TAKES_LINES},
     {"probe", probe, 2, 2, TAKES_LINES},
     {"dictionary", dictionary, 1, 1, TAKES_OUTPUT},
-    {"export", export_netlist, 1, 1, TAKES_OUTPUT | TAKES_FORMAT},
+    {"export", export_netlist, 1, 1, TAKES_OUTPUT | TAKES_FORMAT | TAKES_LAMP},
 };
 
 static const struct option options[] = {
     {"output", required_argument, NULL, OUTPUT}, {"lines", no_argument, NULL, LINES},
-    {"all", no_argument, NULL, ALL},             {"blif", no_argument, NULL, AS_BLIF},
-    {"verilog", no_argument, NULL, AS_VERILOG},  {"dot", no_argument, NULL, AS_DOT},
-    {"help", no_argument, NULL, HELP},           {"version", no_argument, NULL, VERSION},
+    {"all", no_argument, NULL, ALL},             {"lamp", no_argument, NULL, LAMP},
+    {"blif", no_argument, NULL, AS_BLIF},        {"verilog", no_argument, NULL, AS_VERILOG},
+    {"dot", no_argument, NULL, AS_DOT},          {"help", no_argument, NULL, HELP},
+    {"version", no_argument, NULL, VERSION},
     {NULL, 0, NULL, 0},
 };
 
@@ -45,16 +46,16 @@ static const char help[] =
     "\n"
     "  draw DRAWING [-o TABLE]         make the table of a drawing; without -o show it as hex: text\n"
     "  check TABLE                     ask the table's questions; show contacts, outputs, gates, depth and spare contacts\n"
-    "  build TABLE [-o FILE]           build the netlist; without -o show it as hex: text\n"
-    "  list TABLE|NETLIST              print the gate sheet: a row for each gate, then one for each output\n"
-    "  compare A B [--all]             lay the gate lists of two tables or netlists side by side: show how many gates differ, the\n"
-    "                                  first of them (all of them with --all) and every output that differs\n"
+    "  build TABLE [--lamp] [-o FILE]  build the netlist; without -o show it as hex: text\n"
+    "  list TABLE|NETLIST [--lamp]     print the gate sheet: a row for each gate, then one for each output, then one for the lamp\n"
+    "  compare A B [--all] [--lamp]    lay the gate lists of two tables or netlists side by side: show how many gates differ, the\n"
+    "                                  first of them (all of them with --all), every output that differs, and the lamp if it does\n"
     "  read-off TABLE INPUT            show every permit that the table gives at an input\n"
     "  run NETLIST INPUT|RAILS [HOLD...] [--lines]\n"
-    "                                  run a netlist with lines held; show the output pairs\n"
+    "                                  run a netlist with lines held; show the output pairs, and the lamp if there is one\n"
     "  probe TABLE HOLD [--lines]      find the smallest input at which a held line shows\n"
     "  dictionary TABLE [-o FILE]      probe every line at both values; write the answers as CSV; unread: nothing reads the line\n"
-    "  export TABLE|NETLIST --blif|--verilog|--dot [-o FILE]\n"
+    "  export TABLE|NETLIST --blif|--verilog|--dot [--lamp] [-o FILE]\n"
     "                                  write the netlist for other tools, line 8 as the net l8\n"
     "\n"
     "DRAWING, TABLE, NETLIST and RAILS are files: a path, @PATH, - for standard input, or hex: and digits for the bytes\n"
@@ -70,6 +71,7 @@ static const char help[] =
     "                      standard output. FILE must not be one of the files read.\n"
     "      --lines         also show the value of every line\n"
     "      --all           show every gate that differs\n"
+    "      --lamp          build tables with the lamp, one pair for all outputs; a netlist has its own or none and stays as it is\n"
     "      --blif, --verilog, --dot   the form of an export\n"
     "  -h, --help          show this text\n"
     "  -V, --version       show the version\n"
@@ -127,6 +129,9 @@ static unsigned take_option(int found, const char *word, struct request *request
     case ALL:
         request->all = true;
         return TAKES_ALL;
+    case LAMP:
+        request->lamp = true;
+        return TAKES_LAMP;
     case AS_BLIF:
     case AS_VERILOG:
     case AS_DOT:
@@ -169,7 +174,11 @@ static void count_operands(const char *name, const struct request *request, int 
 
 static const char *option_text(unsigned taken)
 {
-    return taken & TAKES_OUTPUT ? "-o" : taken & TAKES_LINES ? "--lines" : taken & TAKES_ALL ? "--all" : "--blif, --verilog or --dot";
+    return taken & TAKES_OUTPUT  ? "-o"
+           : taken & TAKES_LINES ? "--lines"
+           : taken & TAKES_ALL   ? "--all"
+           : taken & TAKES_LAMP  ? "--lamp"
+                                 : "--blif, --verilog or --dot";
 }
 
 command *read_options(int argc, char **argv, struct request *request)

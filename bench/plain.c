@@ -3,7 +3,7 @@
 #include <stdbool.h>
 #include <string.h>
 
-enum { MOST_GATES = 10560 };
+enum { MOST_GATES = 10602 }; /* of a netlist; a table's has 10,560 at most, and 6 for each of 7 joins of its lamp */
 
 /* A table whose edges and outputs are read where the caller's bytes stand. */
 struct table {
@@ -21,6 +21,11 @@ struct matrix {
 struct gate {
     uint8_t kind;
     uint16_t left, right;
+};
+
+/* A true line and a false line. */
+struct pair {
+    uint16_t yes, no;
 };
 
 static struct gate gates[MOST_GATES];
@@ -207,6 +212,33 @@ static void make_gates(const struct table *t, struct matrix *whole)
     block(t, 0, t->contacts, whole);
 }
 
+/* ---- The lamp. ---- */
+
+static struct pair join_pairs(unsigned contacts, struct pair a, struct pair b)
+{
+    struct pair joined;
+    uint16_t first = make_gate(contacts, 0, a.yes, b.yes);
+    uint16_t second = make_gate(contacts, 0, a.no, b.no);
+    joined.yes = make_gate(contacts, 1, first, second);
+    first = make_gate(contacts, 0, a.yes, b.no);
+    second = make_gate(contacts, 0, a.no, b.yes);
+    joined.no = make_gate(contacts, 1, first, second);
+    return joined;
+}
+
+/* Joins the pairs of so many outputs. */
+static struct pair make_lamp(const struct table *t, const struct matrix *whole, const uint8_t *output, unsigned count)
+{
+    unsigned half = (count + 1) / 2;
+    if (count == 1)
+        return (struct pair){whole->entry[*output][1], whole->entry[*output][0]};
+    struct pair first = make_lamp(t, whole, output, half);
+    struct pair rest = make_lamp(t, whole, output + half, count - half);
+    return join_pairs(t->contacts, first, rest);
+}
+
+/* ---- The netlist file. ---- */
+
 static uint8_t *put_two(uint8_t *at, unsigned number)
 {
     at[0] = (uint8_t)(number / 256);
@@ -225,7 +257,8 @@ static size_t file_length(const struct table *t)
     return 10 + 5 * (size_t)gate_count + 4 * t->outputs;
 }
 
-static void write_file(const struct table *t, const struct matrix *whole, uint8_t *at)
+/* Returns the end of the file. */
+static uint8_t *write_file(const struct table *t, const struct matrix *whole, uint8_t *at)
 {
     at = put_head(at, 1, 1);
     *at++ = (uint8_t)t->contacts;
@@ -240,35 +273,63 @@ static void write_file(const struct table *t, const struct matrix *whole, uint8_
         at = put_two(at, whole->entry[t->output[j]][1]);
         at = put_two(at, whole->entry[t->output[j]][0]);
     }
+    return at;
 }
 
 /* ---- Questions about netlists. ---- */
 
-static bool netlist_fields(const uint8_t *file, size_t length, unsigned *gates_found, unsigned *outputs)
+/* A netlist whose gates and pairs are read where the caller's bytes stand. */
+struct netlist {
+    unsigned first, lines, outputs;
+    const uint8_t *gate, *output;
+    const uint8_t *lamp; /* NULL if there is none */
+};
+
+/* Question 11. */
+static bool netlist_fields(const uint8_t *file, size_t length, struct netlist *n)
 {
     if (!is_contacts(file, length) || length < 7 || file[4] != 4)
         return false;
     size_t gate_bytes = two_bytes(file + 5);
     if (gate_bytes % 5 != 0 || gate_bytes > 5 * MOST_GATES || length < 10 + gate_bytes)
         return false;
-    const uint8_t *last = file + 7 + gate_bytes;
-    size_t output_bytes = two_bytes(last + 1);
-    if (last[0] != 5 || output_bytes % 4 != 0 || output_bytes < 4 || output_bytes > 32)
+    const uint8_t *third = file + 7 + gate_bytes;
+    size_t output_bytes = two_bytes(third + 1);
+    if (third[0] != 5 || output_bytes % 4 != 0 || output_bytes < 4 || output_bytes > 32 || length < 10 + gate_bytes + output_bytes)
         return false;
-    *gates_found = (unsigned)gate_bytes / 5;
-    *outputs = (unsigned)output_bytes / 4;
-    return length == 10 + gate_bytes + output_bytes;
+    size_t rest = length - 10 - gate_bytes - output_bytes;
+    const uint8_t *last = third + 3 + output_bytes;
+    if (rest != 0 && (rest != 7 || last[0] != 6 || two_bytes(last + 1) != 4))
+        return false;
+    n->first = 2 + 2u * file[3];
+    n->lines = n->first + (unsigned)gate_bytes / 5;
+    n->outputs = (unsigned)output_bytes / 4;
+    n->gate = file + 7;
+    n->output = third + 3;
+    n->lamp = rest == 0 ? NULL : last + 3;
+    return true;
 }
 
-static bool netlist_lines(const uint8_t *file, unsigned first, unsigned lines, unsigned outputs)
+/* The lamp's pair comes after those of the outputs. */
+static unsigned pair_count(const struct netlist *n)
 {
-    const uint8_t *at = file + 7;
-    for (unsigned line = first; line < lines; line++, at += 5)
+    return n->outputs + (n->lamp != NULL);
+}
+
+static const uint8_t *pair_at(const struct netlist *n, unsigned j)
+{
+    return j < n->outputs ? n->output + 4 * j : n->lamp;
+}
+
+/* Question 12. */
+static bool netlist_lines(const struct netlist *n)
+{
+    const uint8_t *at = n->gate;
+    for (unsigned line = n->first; line < n->lines; line++, at += 5)
         if (at[0] > 1 || two_bytes(at + 1) >= line || two_bytes(at + 3) >= line)
             return false;
-    at += 3;
-    for (unsigned k = 0; k < 2 * outputs; k++)
-        if (two_bytes(at + 2 * k) >= lines)
+    for (unsigned j = 0; j < pair_count(n); j++)
+        if (two_bytes(pair_at(n, j)) >= n->lines || two_bytes(pair_at(n, j) + 2) >= n->lines)
             return false;
     return true;
 }
@@ -318,6 +379,23 @@ pilgodur_built plain_build(const uint8_t *table, size_t table_len, uint8_t *file
     return (pilgodur_built){0, (uint32_t)file_length(&t)};
 }
 
+pilgodur_built plain_build_with_lamp(const uint8_t *table, size_t table_len, uint8_t *file, size_t file_len)
+{
+    struct table t;
+    struct matrix whole;
+    uint32_t refusal = read_table(table, table_len, &t);
+    if (refusal != 0)
+        return (pilgodur_built){refusal, 0};
+    make_gates(&t, &whole);
+    struct pair lamp = make_lamp(&t, &whole, t.output, t.outputs);
+    size_t length = file_length(&t) + 7;
+    if (file_len < length)
+        return (pilgodur_built){9, 0};
+    file = put_head(write_file(&t, &whole, file), 6, 4);
+    put_two(put_two(file, lamp.yes), lamp.no);
+    return (pilgodur_built){0, (uint32_t)length};
+}
+
 pilgodur_reading plain_read_off(const uint8_t *table, size_t table_len, uint32_t input)
 {
     struct table t;
@@ -336,29 +414,15 @@ pilgodur_reading plain_read_off(const uint8_t *table, size_t table_len, uint32_t
     return (pilgodur_reading){0, word};
 }
 
-uint32_t plain_run(const uint8_t *netlist, size_t netlist_len, const uint8_t *rails, size_t rails_len,
-                   const uint8_t *holds, size_t holds_len, uint8_t *lines, size_t lines_len,
-                   uint8_t *pairs, size_t pairs_len)
+/* Works out every line of a netlist. */
+static void run_lines(const struct netlist *n, const uint8_t *rails, const uint8_t *holds, size_t holds_len, uint8_t *lines)
 {
-    unsigned count, outputs;
-    if (!netlist_fields(netlist, netlist_len, &count, &outputs))
-        return 11;
-    unsigned first = 2 + 2u * netlist[3];
-    count += first;
-    if (!netlist_lines(netlist, first, count, outputs))
-        return 12;
-    if (rails_len != first - 2 || !all_below(rails, first - 2, 2))
-        return 13;
-    if (!holds_good(holds, holds_len, count))
-        return 14;
-    if (lines_len < count || pairs_len < 2 * outputs)
-        return 9;
-    const uint8_t *gate = netlist + 7;
+    const uint8_t *gate = n->gate;
     size_t h = 0;
-    for (unsigned line = 0; line < count; line++) {
+    for (unsigned line = 0; line < n->lines; line++) {
         if (line < 2) {
             lines[line] = (uint8_t)line;
-        } else if (line < first) {
+        } else if (line < n->first) {
             lines[line] = rails[line - 2];
         } else {
             uint8_t a = lines[two_bytes(gate + 1)];
@@ -371,9 +435,28 @@ uint32_t plain_run(const uint8_t *netlist, size_t netlist_len, const uint8_t *ra
             h += 3;
         }
     }
-    const uint8_t *output = gate + 3;
-    for (unsigned k = 0; k < 2 * outputs; k++)
-        pairs[k] = lines[two_bytes(output + 2 * k)];
+}
+
+uint32_t plain_run(const uint8_t *netlist, size_t netlist_len, const uint8_t *rails, size_t rails_len,
+                   const uint8_t *holds, size_t holds_len, uint8_t *lines, size_t lines_len,
+                   uint8_t *pairs, size_t pairs_len)
+{
+    struct netlist n;
+    if (!netlist_fields(netlist, netlist_len, &n))
+        return 11;
+    if (!netlist_lines(&n))
+        return 12;
+    if (rails_len != n.first - 2 || !all_below(rails, n.first - 2, 2))
+        return 13;
+    if (!holds_good(holds, holds_len, n.lines))
+        return 14;
+    if (lines_len < n.lines || pairs_len < 2 * pair_count(&n))
+        return 9;
+    run_lines(&n, rails, holds, holds_len, lines);
+    for (unsigned j = 0; j < pair_count(&n); j++) {
+        pairs[2 * j] = lines[two_bytes(pair_at(&n, j))];
+        pairs[2 * j + 1] = lines[two_bytes(pair_at(&n, j) + 2)];
+    }
     return 0;
 }
 
@@ -483,22 +566,23 @@ static uint8_t *put_row(uint8_t *at, unsigned r, unsigned number, const char *ki
 
 pilgodur_built plain_sheet(const uint8_t *netlist, size_t netlist_len, uint8_t *text, size_t text_len)
 {
-    unsigned gates_found, outputs;
-    if (!netlist_fields(netlist, netlist_len, &gates_found, &outputs))
+    struct netlist n;
+    if (!netlist_fields(netlist, netlist_len, &n))
         return (pilgodur_built){11, 0};
-    unsigned first = 2 + 2u * netlist[3];
-    if (!netlist_lines(netlist, first, first + gates_found, outputs))
+    if (!netlist_lines(&n))
         return (pilgodur_built){12, 0};
-    size_t rows = gates_found + outputs;
+    unsigned gates_found = n.lines - n.first;
+    size_t rows = gates_found + pair_count(&n);
     size_t length = ROW * (rows + (rows + PAGE - 1) / PAGE);
     if (text_len < length)
         return (pilgodur_built){9, 0};
-    const uint8_t *gate = netlist + 7;
+    const uint8_t *gate = n.gate;
     for (unsigned g = 0; g < gates_found; g++, gate += 5)
-        text = put_row(text, g, first + g, gate[0] == 0 ? "AND" : "OR ", gate + 1);
-    const uint8_t *output = gate + 3;
-    for (unsigned j = 0; j < outputs; j++)
-        text = put_row(text, gates_found + j, j, "OUT", output + 4 * j);
+        text = put_row(text, g, n.first + g, gate[0] == 0 ? "AND" : "OR ", gate + 1);
+    for (unsigned j = 0; j < n.outputs; j++)
+        text = put_row(text, gates_found + j, j, "OUT", n.output + 4 * j);
+    if (n.lamp != NULL)
+        put_row(text, gates_found + n.outputs, 0, "LMP", n.lamp);
     return (pilgodur_built){0, (uint32_t)length};
 }
 

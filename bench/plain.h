@@ -1,4 +1,4 @@
-/* The same seven services in plain C, byte by byte, for the benchmark to measure against. Not for use from several threads. */
+/* The same eight services in plain C, byte by byte, for the benchmark to measure against. Not for use from several threads. */
 #ifndef PLAIN_H
 #define PLAIN_H
 
@@ -6,6 +6,7 @@
 
 pilgodur_checked plain_check(const uint8_t *table, size_t table_len);
 pilgodur_built plain_build(const uint8_t *table, size_t table_len, uint8_t *file, size_t file_len);
+pilgodur_built plain_build_with_lamp(const uint8_t *table, size_t table_len, uint8_t *file, size_t file_len);
 pilgodur_reading plain_read_off(const uint8_t *table, size_t table_len, uint32_t input);
 uint32_t plain_run(const uint8_t *netlist, size_t netlist_len, const uint8_t *rails, size_t rails_len,
                    const uint8_t *holds, size_t holds_len, uint8_t *lines, size_t lines_len,

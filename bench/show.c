@@ -23,9 +23,19 @@ const char *pair_meaning(unsigned yes, unsigned no)
     return meaning[2 * yes + no];
 }
 
+const char *lamp_meaning(unsigned yes, unsigned no)
+{
+    return yes != no ? "code" : pair_meaning(yes, no);
+}
+
 void show_pair(FILE *out, unsigned output, unsigned yes, unsigned no)
 {
     fprintf(out, "output %u: %u%u %s\n", output, yes, no, pair_meaning(yes, no));
+}
+
+void show_lamp(FILE *out, unsigned yes, unsigned no)
+{
+    fprintf(out, "lamp: %u%u %s\n", yes, no, lamp_meaning(yes, no));
 }
 
 void show_input(FILE *out, uint32_t input, unsigned contacts)

@@ -13,6 +13,7 @@
 static const struct {
     pilgodur_checked (*check)(const uint8_t *, size_t);
     pilgodur_built (*build)(const uint8_t *, size_t, uint8_t *, size_t);
+    pilgodur_built (*build_with_lamp)(const uint8_t *, size_t, uint8_t *, size_t);
     pilgodur_reading (*read_off)(const uint8_t *, size_t, uint32_t);
     uint32_t (*run)(const uint8_t *, size_t, const uint8_t *, size_t, const uint8_t *, size_t, uint8_t *, size_t, uint8_t *,
                     size_t);
@@ -20,10 +21,12 @@ static const struct {
     pilgodur_built (*sheet)(const uint8_t *, size_t, uint8_t *, size_t);
     pilgodur_built (*from_drawing)(const uint8_t *, size_t, uint8_t *, size_t);
 } services[SIDES] = {
-    [PLAIN] = {plain_check, plain_build, plain_read_off, plain_run, plain_probe, plain_sheet, plain_from_drawing},
-    [TUNED] = {tuned_check, tuned_build, tuned_read_off, tuned_run, tuned_probe, tuned_sheet, tuned_from_drawing},
-    [LIBRARY] = {pilgodur_check, pilgodur_build, pilgodur_read_off, pilgodur_run, pilgodur_probe, pilgodur_sheet,
-                 pilgodur_from_drawing},
+    [PLAIN] = {plain_check, plain_build, plain_build_with_lamp, plain_read_off, plain_run, plain_probe, plain_sheet,
+               plain_from_drawing},
+    [TUNED] = {tuned_check, tuned_build, tuned_build_with_lamp, tuned_read_off, tuned_run, tuned_probe, tuned_sheet,
+               tuned_from_drawing},
+    [LIBRARY] = {pilgodur_check, pilgodur_build, pilgodur_build_with_lamp, pilgodur_read_off, pilgodur_run, pilgodur_probe,
+                 pilgodur_sheet, pilgodur_from_drawing},
 };
 
 static uint64_t do_check(enum side side, const struct job *j)
@@ -35,6 +38,12 @@ static uint64_t do_check(enum side side, const struct job *j)
 static uint64_t do_build(enum side side, const struct job *j)
 {
     pilgodur_built r = services[side].build(j->table, j->table_length, written[side], BUFFER);
+    return r.refusal + 100 * (uint64_t)r.length;
+}
+
+static uint64_t do_build_with_lamp(enum side side, const struct job *j)
+{
+    pilgodur_built r = services[side].build_with_lamp(j->table, j->table_length, written[side], BUFFER);
     return r.refusal + 100 * (uint64_t)r.length;
 }
 
@@ -97,11 +106,14 @@ static const char *label(const char *format, ...)
     return text;
 }
 
+enum { LAMP_GATES = 6 * 7 }; /* of eight outputs */
+
 static void add_tables(unsigned contacts)
 {
     use_largest_board(contacts);
     add_row(label("check, %u contacts, %u gates", contacts, job.gates), do_check, 1);
     add_row(label("build, %u contacts, %u gates", contacts, job.gates), do_build, 1);
+    add_row(label("build with lamp, %u contacts, %u gates", contacts, job.gates + LAMP_GATES), do_build_with_lamp, 1);
     add_row(label("read-off, %u contacts, 8 outputs", contacts), do_read_off, 1);
 }
 

@@ -3,7 +3,7 @@
 #include <stdbool.h>
 #include <string.h>
 
-enum { MOST_GATES = 10560 };
+enum { MOST_GATES = 10602 }; /* of a netlist; a table's has 10,560 at most, and 6 for each of 7 joins of its lamp */
 
 /* A table whose edges and outputs are read where the caller's bytes stand. */
 struct table {
@@ -190,18 +190,48 @@ static uint8_t *put_two(uint8_t *at, unsigned number)
     return at + 2;
 }
 
-/* Writes the netlist file to a buffer of PILGODUR_FILE_MAX bytes; returns its length, and the lines that there are. */
-static size_t put_file(const struct table *t, uint8_t *file, unsigned *lines)
+/* Puts the pair of a and b, each a true line and a false line, in the place of a. */
+static void join_pairs(struct gates *g, uint16_t *a, const uint16_t *b)
+{
+    unsigned line = g->line;
+    put_gate(g, 0, a[0], b[0]);
+    put_gate(g, 0, a[1], b[1]);
+    put_gate(g, 1, line, line + 1);
+    put_gate(g, 0, a[0], b[1]);
+    put_gate(g, 0, a[1], b[0]);
+    put_gate(g, 1, line + 3, line + 4);
+    a[0] = (uint16_t)(line + 2);
+    a[1] = (uint16_t)(line + 5);
+}
+
+static uint8_t *put_pair(uint8_t *at, const uint16_t *pair)
+{
+    return put_two(put_two(at, pair[0]), pair[1]);
+}
+
+/* Writes the netlist file, with the lamp if it is asked for, to a buffer of PILGODUR_FILE_MAX bytes; returns its length, and the lines
+ * that there are. The joins of the lamp go as those of ORs do. */
+static size_t put_file(const struct table *t, uint8_t *file, unsigned *lines, bool lamp)
 {
     struct matrix whole;
     struct gates g = {file + 7, 2 + 2 * t->contacts};
+    uint16_t output[8][2], pair[8][2];
     put_block(t, 0, t->contacts, &g, &whole);
+    for (unsigned j = 0; j < t->outputs; j++)
+        for (unsigned rail = 0; rail < 2; rail++)
+            output[j][rail] = pair[j][rail] = whole.entry[t->output[j]][1 - rail];
+    for (unsigned i = 0; lamp && i + 1 < t->outputs; i++)
+        join_pairs(&g, pair[joins[t->outputs][i][0]], pair[joins[t->outputs][i][1]]);
     memcpy(file, (uint8_t[]){1, 0, 1, (uint8_t)t->contacts, 4}, 5);
     put_two(file + 5, (unsigned)(g.at - file - 7));
     *g.at++ = 5;
     g.at = put_two(g.at, 4 * t->outputs);
     for (unsigned j = 0; j < t->outputs; j++)
-        g.at = put_two(put_two(g.at, whole.entry[t->output[j]][1]), whole.entry[t->output[j]][0]);
+        g.at = put_pair(g.at, output[j]);
+    if (lamp) {
+        memcpy(g.at, (uint8_t[]){6, 0, 4}, 3);
+        g.at = put_pair(g.at + 3, pair[0]);
+    }
     *lines = g.line;
     return (size_t)(g.at - file);
 }
@@ -285,7 +315,7 @@ pilgodur_checked tuned_check(const uint8_t *table, size_t table_len)
     return (pilgodur_checked){0, t.contacts, t.outputs, whole.gates, whole.largest - 2};
 }
 
-pilgodur_built tuned_build(const uint8_t *table, size_t table_len, uint8_t *file, size_t file_len)
+static pilgodur_built build(const uint8_t *table, size_t table_len, uint8_t *file, size_t file_len, bool lamp)
 {
     uint8_t made[PILGODUR_FILE_MAX];
     struct table t;
@@ -294,12 +324,22 @@ pilgodur_built tuned_build(const uint8_t *table, size_t table_len, uint8_t *file
     if (refusal != 0)
         return (pilgodur_built){refusal, 0};
     if (file_len >= PILGODUR_FILE_MAX) /* long enough for every file, so none is made aside */
-        return (pilgodur_built){0, (uint32_t)put_file(&t, file, &lines)};
-    size_t length = put_file(&t, made, &lines);
+        return (pilgodur_built){0, (uint32_t)put_file(&t, file, &lines, lamp)};
+    size_t length = put_file(&t, made, &lines, lamp);
     if (file_len < length)
         return (pilgodur_built){9, 0};
     memcpy(file, made, length);
     return (pilgodur_built){0, (uint32_t)length};
+}
+
+pilgodur_built tuned_build(const uint8_t *table, size_t table_len, uint8_t *file, size_t file_len)
+{
+    return build(table, table_len, file, file_len, false);
+}
+
+pilgodur_built tuned_build_with_lamp(const uint8_t *table, size_t table_len, uint8_t *file, size_t file_len)
+{
+    return build(table, table_len, file, file_len, true);
 }
 
 /* All outputs go down the levels together. */
@@ -326,28 +366,34 @@ pilgodur_reading tuned_read_off(const uint8_t *table, size_t table_len, uint32_t
 
 /* ---- Run: the gates are checked and worked out in one pass, into an array aside; no branch hangs on a value. ---- */
 
-static bool netlist_fields(const uint8_t *file, size_t length, unsigned *gates, unsigned *outputs)
+/* Question 11. Finds how many gates and outputs there are, and the lamp's lines, or NULL if there is no lamp. */
+static bool netlist_fields(const uint8_t *file, size_t length, unsigned *gates, unsigned *outputs, const uint8_t **lamp)
 {
     if (length < 7 || file[0] != 1 || file[1] != 0 || file[2] != 1 || file[3] - 1u > 11 || file[4] != 4)
         return false;
     size_t gate_bytes = two_bytes(file + 5);
     if (gate_bytes % 5 != 0 || gate_bytes > 5 * MOST_GATES || length < 10 + gate_bytes)
         return false;
-    const uint8_t *last = file + 7 + gate_bytes;
-    size_t output_bytes = two_bytes(last + 1);
-    if (last[0] != 5 || output_bytes % 4 != 0 || output_bytes < 4 || output_bytes > 32)
+    const uint8_t *third = file + 7 + gate_bytes, *last;
+    size_t output_bytes = two_bytes(third + 1);
+    if (third[0] != 5 || output_bytes % 4 != 0 || output_bytes < 4 || output_bytes > 32)
         return false;
     *gates = (unsigned)gate_bytes / 5;
     *outputs = (unsigned)output_bytes / 4;
-    return length == 10 + gate_bytes + output_bytes;
+    *lamp = NULL;
+    if (length == 10 + gate_bytes + output_bytes)
+        return true;
+    last = third + 3 + output_bytes;
+    *lamp = last + 3;
+    return length == 17 + gate_bytes + output_bytes && last[0] == 6 && last[1] == 0 && last[2] == 4;
 }
 
-static bool outputs_good(const uint8_t *output, unsigned outputs, unsigned lines)
+static bool pairs_good(const uint8_t *output, unsigned outputs, const uint8_t *lamp, unsigned lines)
 {
     for (unsigned k = 0; k < 2 * outputs; k++)
         if (two_bytes(output + 2 * k) >= lines)
             return false;
-    return true;
+    return lamp == NULL || (two_bytes(lamp) < lines && two_bytes(lamp + 2) < lines);
 }
 
 static bool rails_good(const uint8_t *rails, size_t count)
@@ -401,7 +447,8 @@ uint32_t tuned_run(const uint8_t *netlist, size_t netlist_len, const uint8_t *ra
 {
     uint8_t value[PILGODUR_LINES_MAX], mark[PILGODUR_LINES_MAX];
     unsigned gates, outputs;
-    if (!netlist_fields(netlist, netlist_len, &gates, &outputs))
+    const uint8_t *lamp;
+    if (!netlist_fields(netlist, netlist_len, &gates, &outputs, &lamp))
         return 11;
     unsigned first = 2 + 2u * netlist[3], count = first + gates;
     const uint8_t *output = netlist + 10 + 5 * (size_t)gates;
@@ -414,15 +461,17 @@ uint32_t tuned_run(const uint8_t *netlist, size_t netlist_len, const uint8_t *ra
     value[1] = 1;
     for (unsigned line = 2; line < first; line++)
         value[line] = shown[mark[line] + (driven ? 2 * rails[line - 2] : 0)];
-    if (!work_out(netlist + 7, first, count, mark, value) || !outputs_good(output, outputs, count))
+    if (!work_out(netlist + 7, first, count, mark, value) || !pairs_good(output, outputs, lamp, count))
         return 12;
     if (!driven || !ordered)
         return driven ? 14 : 13;
-    if (lines_len < count || pairs_len < 2 * outputs)
+    if (lines_len < count || pairs_len < 2 * (outputs + (lamp != NULL)))
         return 9;
     memcpy(lines, value, count);
     for (unsigned k = 0; k < 2 * outputs; k++)
         pairs[k] = value[two_bytes(output + 2 * k)];
+    for (unsigned k = 0; lamp != NULL && k < 2; k++)
+        pairs[2 * outputs + k] = value[two_bytes(lamp + 2 * k)];
     return 0;
 }
 
@@ -537,7 +586,7 @@ pilgodur_probed tuned_probe(const uint8_t *table, size_t table_len, const uint8_
     uint32_t refusal = read_table(table, table_len, &t);
     if (refusal != 0)
         return (pilgodur_probed){refusal, 0, 0, 0};
-    size_t length = put_file(&t, made, &s.lines);
+    size_t length = put_file(&t, made, &s.lines, false);
     if (hold_len != 3 || !holds_good(hold, hold_len, s.lines))
         return (pilgodur_probed){14, 0, 0, 0};
     if (!is_read(&t, two_bytes(hold)))
@@ -568,7 +617,8 @@ enum { ROW = 22, PAGE = 50 };
  * them, by the count of hundreds; the kinds. */
 static const uint16_t low_text[200] = {HUNDRED(DIGITS), HUNDRED(BLANKED)};
 static const uint32_t high_text[200] = {HUNDRED(HIGH), HUNDRED(ABOVE_99)};
-static const uint64_t kind_text[] = {'A' | 'N' << 8 | 'D' << 16, 'O' | 'R' << 8 | ' ' << 16, 'O' | 'U' << 8 | 'T' << 16};
+static const uint64_t kind_text[] = {'A' | 'N' << 8 | 'D' << 16, 'O' | 'R' << 8 | ' ' << 16, 'O' | 'U' << 8 | 'T' << 16,
+                                     'L' | 'M' << 8 | 'P' << 16};
 
 /* The columns of a number below 20,000. */
 static uint64_t columns(uint32_t number)
@@ -640,24 +690,32 @@ static uint8_t *put_gate_rows(uint8_t *at, const uint8_t *gate, unsigned gates, 
     return at;
 }
 
+/* Writes the row of an output or of the lamp; so many come before it. */
+static uint8_t *put_pair_row(uint8_t *at, unsigned before, unsigned number, uint64_t kind, const uint8_t *pair)
+{
+    if (before % PAGE == 0)
+        at = put_heading(at);
+    return put_row(at, columns(number), kind, columns(two_bytes(pair)), columns(two_bytes(pair + 2)));
+}
+
 pilgodur_built tuned_sheet(const uint8_t *netlist, size_t netlist_len, uint8_t *text, size_t text_len)
 {
     unsigned gates, outputs;
-    if (!netlist_fields(netlist, netlist_len, &gates, &outputs))
+    const uint8_t *lamp;
+    if (!netlist_fields(netlist, netlist_len, &gates, &outputs, &lamp))
         return (pilgodur_built){11, 0};
-    unsigned first = 2 + 2u * netlist[3], rows = gates + outputs;
+    unsigned first = 2 + 2u * netlist[3], rows = gates + outputs + (lamp != NULL);
     const uint8_t *output = netlist + 10 + 5 * (size_t)gates;
-    if (!gates_good(netlist + 7, first, first + gates) || !outputs_good(output, outputs, first + gates))
+    if (!gates_good(netlist + 7, first, first + gates) || !pairs_good(output, outputs, lamp, first + gates))
         return (pilgodur_built){12, 0};
     uint32_t length = ROW * (rows + (rows + PAGE - 1) / PAGE);
     if (text_len < length)
         return (pilgodur_built){9, 0};
     uint8_t *at = put_gate_rows(text, netlist + 7, gates, first);
-    for (unsigned j = 0; j < outputs; j++, output += 4) {
-        if ((gates + j) % PAGE == 0)
-            at = put_heading(at);
-        at = put_row(at, columns(j), kind_text[2], columns(two_bytes(output)), columns(two_bytes(output + 2)));
-    }
+    for (unsigned j = 0; j < outputs; j++)
+        at = put_pair_row(at, gates + j, j, kind_text[2], output + 4 * j);
+    if (lamp != NULL)
+        put_pair_row(at, gates + outputs, 0, kind_text[3], lamp);
     return (pilgodur_built){0, length};
 }
 

@@ -1,4 +1,4 @@
-/* The same seven services in C written for speed, for the benchmark to measure against. For little-endian machines. */
+/* The same eight services in C written for speed, for the benchmark to measure against. For little-endian machines. */
 #ifndef TUNED_H
 #define TUNED_H
 
@@ -6,6 +6,7 @@
 
 pilgodur_checked tuned_check(const uint8_t *table, size_t table_len);
 pilgodur_built tuned_build(const uint8_t *table, size_t table_len, uint8_t *file, size_t file_len);
+pilgodur_built tuned_build_with_lamp(const uint8_t *table, size_t table_len, uint8_t *file, size_t file_len);
 pilgodur_reading tuned_read_off(const uint8_t *table, size_t table_len, uint32_t input);
 uint32_t tuned_run(const uint8_t *netlist, size_t netlist_len, const uint8_t *rails, size_t rails_len,
                    const uint8_t *holds, size_t holds_len, uint8_t *lines, size_t lines_len,

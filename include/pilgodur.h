@@ -7,8 +7,9 @@
  *            n fields of tag 3, one for each level 0 to n-1: two bytes for each node (1 to 8), its 0-edge and its 1-edge, as
  *            node numbers in the next level. Level n is not written: its node 0 is the constant false, its node 1 true.
  *   Netlist: tag 1 as above.
- *            tag 4, five bytes a gate (0 to 10,560): kind (0 AND, 1 OR), then two source lines of two bytes each.
+ *            tag 4, five bytes a gate (0 to 10,602): kind (0 AND, 1 OR), then two source lines of two bytes each.
  *            tag 5, four bytes an output (1 to 8): its true line, then its false line.
+ *            tag 6, which may be left out, four bytes: the lamp's true line, then its false line.
  *   Drawing: tag 1 as above.
  *            tag 2, one byte for each output (1 to 8): a constant or a node.
  *            tag 7, three bytes for each node (0 to 200): its level (0 to n-1), its 0-edge and its 1-edge. Numbers 0 and 1 are the
@@ -23,6 +24,13 @@
  * spare if no output's value depends on it. Nothing in the table's netlist reads the two rails of a spare contact; every other line
  * from 2 up is read.
  *
+ * LAMP. The lamp is one pair made from those of all outputs, by gates that follow the others: what the field calls a two-rail checker.
+ * Two pairs a, a' and b, b' are joined by six gates in this sequence: AND a b, AND a' b', the OR of these two as the true line; AND a
+ * b', AND a' b, the OR of these two as the false line. Of several pairs the first half, rounded up, is joined by this same rule, then
+ * the others, then the two pairs so made; one pair is itself. Constants may be sources. With no line of these gates held the lamp's
+ * pair is a code exactly if every output's pair is, at any rails. At a code input, with lines held all one way, also of these gates, it
+ * shows the code that it has there with none held, or 00 for lines held at 0, or 11 for lines held at 1.
+ *
  * HOLDS. A hold is three bytes: a line, then the value 0 or 1 at which it is held.
  *
  * SHEET. A gate sheet is a netlist as text for paper, in rows of 21 characters and a line feed. A number stands in columns 1 to 5, a
@@ -30,7 +38,8 @@
  * blanks before them, kinds left with blanks after them.
  *   Gates:   a row for each: its line, AND or OR, its two sources.
  *   Outputs: then a row for each: its number from 0 up, OUT, its true line, its false line.
- *   Heading: " LINE KIN     A     B" and a line feed, before row 1, row 51, row 101 and so on, gates and outputs counted together.
+ *   Lamp:    then, if there is one, a row: 0, LMP, its true line, its false line.
+ *   Heading: " LINE KIN     A     B" and a line feed, before row 1, row 51, row 101 and so on, all of these rows counted together.
  * A sheet of r rows has 22 * (r + (r + 49) / 50) bytes. It determines the netlist once the count of contacts is given.
  *
  * REFUSALS. Each service asks its questions in the sequence stated with it; the first no gives its number, and 0 is an answer. The
@@ -40,8 +49,8 @@
  * that a service writes must not overlap any other byte string of the call; strings that it only reads may overlap or be the same.
  * Bytes of a buffer past those that are written keep their values.
  *
- * MEMORY. No heap and no data of the library's own, so calls from several threads do not meet. Stack: some 80 KB for check, 60 KB
- * for build, 270 KB for probe, 110 KB for from-drawing, little for the others.
+ * MEMORY. No heap and no data of the library's own, so calls from several threads do not meet. Stack: some 80 KB for check and for
+ * either build, 270 KB for probe, 8 KB for from-drawing, little for the others.
  */
 #ifndef PILGODUR_H
 #define PILGODUR_H
@@ -53,9 +62,9 @@
 extern "C" {
 #endif
 
-#define PILGODUR_VERSION "2.1.0"
+#define PILGODUR_VERSION "2.2.0"
 #define PILGODUR_VERSION_MAJOR 2
-#define PILGODUR_VERSION_MINOR 1
+#define PILGODUR_VERSION_MINOR 2
 #define PILGODUR_VERSION_PATCH 0
 
 /* The questions, as Q(number, name, text) for each. A no to question 6 is the refusal 6, PILGODUR_REFUSAL_TWINS. Number 8 is never
@@ -70,9 +79,10 @@ extern "C" {
     Q(7, PILGODUR_REFUSAL_NUMBERING, "Are nodes numbered by first mention, and all mentioned?") \
     Q(9, PILGODUR_REFUSAL_BUFFER, "Is the lent buffer long enough?") \
     Q(10, PILGODUR_REFUSAL_INPUT, "Is the input below 2^n?") \
-    Q(11, PILGODUR_REFUSAL_NETLIST, "Does the netlist have whole fields of tags 1, 4, 5 in that order and no more, tag 1 as in " \
-      "question 2, tag 4 of 0 to 10,560 whole gates, tag 5 of 1 to 8 whole outputs?") \
-    Q(12, PILGODUR_REFUSAL_WIRING, "Is every kind 0 or 1, every source below its gate's own line, every output line in the netlist?") \
+    Q(11, PILGODUR_REFUSAL_NETLIST, "Does the netlist have whole fields of tags 1, 4, 5 in that order, then at most tag 6 and no " \
+      "more, tag 1 as in question 2, tag 4 of 0 to 10,602 whole gates, tag 5 of 1 to 8 whole outputs, tag 6 of one whole pair?") \
+    Q(12, PILGODUR_REFUSAL_WIRING, "Is every kind 0 or 1, every source below its gate's own line, every output line and lamp line " \
+      "in the netlist?") \
     Q(13, PILGODUR_REFUSAL_RAILS, "Are there 2n rail bytes, in line order, each 0 or 1?") \
     Q(14, PILGODUR_REFUSAL_HOLDS, "Are the holds whole, each naming a line from 2 up that is in the netlist, with value 0 or 1, " \
       "lines strictly rising?") \
@@ -90,11 +100,12 @@ enum pilgodur_refusal { PILGODUR_REFUSAL_NONE = 0, PILGODUR_QUESTIONS(PILGODUR_R
 /* The way in which a pair shows a held line. */
 enum pilgodur_way { PILGODUR_WAY_BOTH_LOW = 0, PILGODUR_WAY_BOTH_HIGH = 1 };
 
-/* Buffers of these lengths are always long enough; probe's needs the first two together. */
-#define PILGODUR_FILE_MAX 52842 /* a netlist file: 4 + (3 + 5 * 10560) + (3 + 4 * 8) */
-#define PILGODUR_LINES_MAX 10586 /* the lines of a netlist: 2 + 2 * 12 + 10560 */
-#define PILGODUR_PAIRS_MAX 16 /* two bytes an output */
-#define PILGODUR_SHEET_MAX 237160 /* a gate sheet: 22 * (10560 + 8) for the rows, 22 * 212 for the headings */
+/* Buffers of these lengths are always long enough. For probe's the first two together are: its board is the plain one, without the
+ * lamp, and needs 52,842 and 10,586 bytes at most. */
+#define PILGODUR_FILE_MAX 53059 /* a netlist file: 4 + (3 + 5 * 10602) + (3 + 4 * 8) + (3 + 4) */
+#define PILGODUR_LINES_MAX 10628 /* the lines of a netlist: 2 + 2 * 12 + 10602 */
+#define PILGODUR_PAIRS_MAX 18 /* two bytes an output, and two for the lamp */
+#define PILGODUR_SHEET_MAX 238128 /* a gate sheet: 22 * (10602 + 8 + 1) for the rows, 22 * 213 for the headings */
 #define PILGODUR_TABLE_MAX 243 /* a table: 4 + (3 + 8) + 12 * (3 + 2 * 8) */
 
 /* A refusal is one of enum pilgodur_refusal, a way one of enum pilgodur_way. */
@@ -103,36 +114,43 @@ typedef struct { uint32_t refusal, length; } pilgodur_built;
 typedef struct { uint32_t refusal, word; } pilgodur_reading;
 typedef struct { uint32_t refusal, input, output, way; } pilgodur_probed;
 
-/* Checks a table. Questions 1 to 7. Returns its contacts and outputs, and the gates and depth of its netlist. A rail or constant
- * has depth 0, a gate one more than its deeper source; the netlist's depth is its largest. */
+/* Checks a table. Questions 1 to 7. Returns its contacts and outputs, and the gates and depth of its netlist, without the lamp. A
+ * rail or constant has depth 0, a gate one more than its deeper source; the netlist's depth is its largest. */
 pilgodur_checked pilgodur_check(const uint8_t *table, size_t table_len);
 
 /* Builds the netlist of a table. Questions 1 to 7, then 9. Writes the netlist file to the start of file and returns its length,
  * which is 10 + 5 * gates + 4 * outputs; file needs at least that length. */
 pilgodur_built pilgodur_build(const uint8_t *table, size_t table_len, uint8_t *file, size_t file_len);
 
+/* Builds the netlist of a table with the lamp. Questions 1 to 7, then 9. The first gates are those of pilgodur_build's netlist, and 6
+ * for each join follow, so gates is what pilgodur_check returns plus 6 * (outputs - 1). The outputs' lines are the same. Writes the
+ * netlist file to the start of file and returns its length, which is 17 + 5 * gates + 4 * outputs; file needs at least that length.
+ * The netlist's depth is at most 2 * ceil(log2(outputs)) more than without the lamp. */
+pilgodur_built pilgodur_build_with_lamp(const uint8_t *table, size_t table_len, uint8_t *file, size_t file_len);
+
 /* Reads all outputs off a table at an input. Questions 1 to 7, then 10. Returns a word in which output j has the weight 2^j. */
 pilgodur_reading pilgodur_read_off(const uint8_t *table, size_t table_len, uint32_t input);
 
-/* Runs a netlist, built by pilgodur_build or not, with lines held. Questions 11 to 14, then 9 for either buffer. Returns the
+/* Runs a netlist, built by this library or not, with lines held. Questions 11 to 14, then 9 for either buffer. Returns the
  * refusal.
  *   rails  2n bytes in line order, each 0 or 1; they need not be a code input.
  *   holds  three bytes each, with strictly rising lines; may be empty.
  *   lines  gets every line's value, one byte each from line 0 up, held ones as held; needs one byte a line.
- *   pairs  gets two bytes an output, the values of its true line and its false line; needs two bytes an output. */
+ *   pairs  gets two bytes an output, the values of its true line and its false line, and two more for the lamp if there is one;
+ *          needs these bytes. */
 uint32_t pilgodur_run(const uint8_t *netlist, size_t netlist_len, const uint8_t *rails, size_t rails_len,
                       const uint8_t *holds, size_t holds_len, uint8_t *lines, size_t lines_len,
                       uint8_t *pairs, size_t pairs_len);
 
-/* Probes one line of a table's board. Questions 1 to 7, then 14, 15 and 9. hold is one hold, three bytes. Returns the smallest code
- * input at which the held line makes some pair 00 or 11, the lowest such output there, and the way it shows: 0 both low, for a
- * line held at 0, or 1 both high, for a line held at 1. Such an input exists for every line that is read, and for no other. Writes
- * to buffer the netlist file, then the value of every line at that input with the line held, one byte each from line 0 up; buffer
- * needs the length of both. */
+/* Probes one line of a table's board, without the lamp. Questions 1 to 7, then 14, 15 and 9. hold is one hold, three bytes. Returns
+ * the smallest code input at which the held line makes some pair 00 or 11, the lowest such output there, and the way it shows: 0 both
+ * low, for a line held at 0, or 1 both high, for a line held at 1. Such an input exists for every line that is read, and for no other.
+ * Writes to buffer the netlist file, then the value of every line at that input with the line held, one byte each from line 0 up;
+ * buffer needs the length of both. */
 pilgodur_probed pilgodur_probe(const uint8_t *table, size_t table_len, const uint8_t *hold, size_t hold_len,
                                uint8_t *buffer, size_t buffer_len);
 
-/* Writes the gate sheet of a netlist, built by pilgodur_build or not. Questions 11 and 12, then 9. Writes the sheet to the start of
+/* Writes the gate sheet of a netlist, built by this library or not. Questions 11 and 12, then 9. Writes the sheet to the start of
  * text and returns its length; text needs at least that length. */
 pilgodur_built pilgodur_sheet(const uint8_t *netlist, size_t netlist_len, uint8_t *text, size_t text_len);
 

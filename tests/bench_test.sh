@@ -81,9 +81,9 @@ both_spare=hex:0100010202000200010300040000010103000400000101
 only_spare=hex:01000101020001000300020000
 eleven_spare=hex:0100010c02000100$(printf '0300020000%.0s' 1 2 3 4 5 6 7 8 9 10 11)0300020001
 
-# netlist CONTACTS "KIND SOURCE SOURCE ..." "TRUE FALSE ...": the hex: text of a netlist.
+# netlist CONTACTS "KIND SOURCE SOURCE ..." "TRUE FALSE ..." ["TRUE FALSE"]: the hex: text of a netlist, with a lamp or without.
 netlist() {
-    n=$1 outputs=$3 gates='' length=0
+    n=$1 outputs=$3 lamp=${4-} gates='' length=0
     # shellcheck disable=SC2086
     set -- $2
     while [ $# -gt 0 ]; do
@@ -96,6 +96,8 @@ netlist() {
     # shellcheck disable=SC2086
     set -- $outputs
     printf 'hex:010001%02x04%04x%s05%04x%s' "$n" "$length" "$gates" $((2 * $#)) "$(printf '%04x' "$@")"
+    # shellcheck disable=SC2086
+    [ -z "$lamp" ] || printf '060004%04x%04x' $lamp
 }
 
 transcript check
@@ -131,6 +133,16 @@ try build $q6 -o built.netlist
 pipe 'cmp built.netlist selector.netlist'
 try build selector.table -o no/such/folder
 try build selector.table -o .
+# With the lamp: one output, two, two constants, three, eight.
+try build single.table --lamp
+try build --lamp spare.table
+try build $both_spare --lamp
+try build lift.table --lamp
+try build lift.table --lamp -o lift-lamp.netlist
+pipe 'pilgodur build lift.table --lamp -o - | cmp - lift-lamp.netlist'
+try build widest.table --lamp -o widest-lamp.netlist
+pipe 'wc -c <widest-lamp.netlist; cksum <widest-lamp.netlist'
+try build $q6 --lamp
 judge
 
 transcript list
@@ -149,11 +161,36 @@ pipe 'pilgodur list widest.table | cksum'
 pipe 'pilgodur list widest.netlist | cksum'
 pipe 'pilgodur list - <widest.netlist | cksum'
 pipe 'pilgodur build widest.table | pilgodur list - | cksum'
-# The largest netlist: 10,560 gates and 8 outputs.
+# 10,560 gates and 8 outputs: no table has a larger netlist without the lamp.
 pipe '{ echo hex:0100010c04ce40; yes 0000020003 | head -n 10560; echo 050020; yes 29592958 | head -n 8; } >largest.hex'
 pipe 'pilgodur list largest.hex | sed -n "10174,10175p; 10780,\$p"'
 pipe 'pilgodur list largest.hex | cksum'
+try list single.table --lamp
+try list spare.table --lamp
+try list --lamp $both_spare
+try list lift-lamp.netlist
+pipe 'pilgodur list lift-lamp.netlist >lift.sheet; pilgodur list lift.table --lamp | cmp - lift.sheet'
+pipe 'pilgodur list widest.table --lamp | tail -n 16'
+pipe 'pilgodur list widest.table --lamp | cksum'
+pipe 'pilgodur list widest-lamp.netlist | cksum'
+# A netlist stays as it is.
+pipe 'pilgodur list selector.netlist --lamp | cmp - "$root/tests/expected/sheet.txt"'
+# A lamp on a page of its own, and the largest netlist with one: 10,602 gates.
+pipe '{ echo hex:010001010400f5; yes 0000020003 | head -n 49; echo 0500040002000306000400030002; } >49.hex'
+pipe 'pilgodur list 49.hex | tail -n 4'
+pipe '{ echo hex:0100010c04cf12; yes 0000020003 | head -n 10602; echo 050020; yes 29832982 | head -n 8; echo 06000429822983; } >lamp.hex'
+pipe 'pilgodur list lamp.hex | sed -n "10800,\$p"'
+pipe 'pilgodur list lamp.hex | wc -c'
+pipe '{ echo hex:0100010c04cf17; yes 0000020003 | head -n 10603; echo 05000400020003; } | pilgodur list -'
+# A lamp twice, of another length, of another tag, with bytes behind it, before the outputs, instead of them, of a line that is not there.
+for lamp in 0600040002000306000400020003 060000 060003000200 0600050002000300 0600080002000300020003 07000400020003 0600040002000300 \
+    0600040002 06000400040003 06000400020004; do
+    try list "hex:0100010104000005000400020003$lamp"
+done
+try list hex:010001010400000600040002000305000400020003
+try list hex:0100010104000006000400020003
 try list $q6
+try list $q6 --lamp
 try list $q11
 try list $q12
 try list hex:01000101040000
@@ -362,6 +399,18 @@ pipe 'printf "\0\001\0\001\0\001" | pilgodur run selector.netlist -'
 pipe 'pilgodur build selector.table | pilgodur run - 3'
 pipe 'pilgodur run widest.netlist 4095 | cksum'
 pipe 'pilgodur run widest.netlist 4095 1383=0 1384=1 --lines | cksum'
+# The lamp, with none of its gates held and with one; of one output; of constants; the lamp's own lines among all lines.
+try run lift-lamp.netlist 5
+try run lift-lamp.netlist 5 21=1
+try run lift-lamp.netlist contacts:1010 17=0
+try run lift-lamp.netlist 5 22=1 33=1
+try run lift-lamp.netlist hex:0000000000000000
+try run lift-lamp.netlist 5 30=0 --lines
+try run lift-lamp.netlist 5 34=0
+pipe 'pilgodur build --lamp single.table | pilgodur run - 1 2=0'
+pipe 'pilgodur build --lamp $both_spare | pilgodur run - 1'
+pipe 'pilgodur run widest-lamp.netlist 4095 | tail -n 2'
+try run hex:010001010400000500040002000306000400020004 0
 try run selector.table 0
 try run $q12 0
 try run selector.netlist hex:0001000100
@@ -441,6 +490,22 @@ try compare single.table "$(netlist 2 '' '2 3')"
 # The permits of the second output alone, and the false rail alone.
 try compare "$(netlist 2 '' '2 3 4 5')" "$(netlist 2 '' '2 3 5 4')"
 try compare "$(netlist 2 '' '2 3')" "$(netlist 2 '' '2 5')"
+# Lamps: alike; missing on either side; their lines exchanged; a gate of a join exchanged; with other outputs; with other contacts; alone.
+try compare lift.table lift-lamp.netlist --lamp
+try compare --lamp widest-lamp.netlist widest.table
+try compare --lamp lift.table lift.table
+try compare lift.table lift-lamp.netlist
+try compare lift-lamp.netlist lift.table
+spare_gates='AND 4 7 OR 5 10 AND 4 6'
+join='AND 12 6 AND 11 7 OR 13 14 AND 12 7 AND 11 6 OR 16 17'
+try compare spare.table "$(netlist 4 "$spare_gates $join" '12 11 6 7' '15 18')" --lamp
+try compare spare.table "$(netlist 4 "$spare_gates $join" '12 11 6 7' '18 15')" --lamp
+try compare spare.table "$(netlist 4 "$spare_gates AND 6 12 AND 11 7 OR 13 14 AND 12 7 AND 11 6 OR 16 17" '12 11 6 7' '15 18')" --lamp
+try compare spare.table "$(netlist 4 "$spare_gates $join" '12 11 6 7' '15 15')" --lamp
+try compare single.table "$(netlist 1 '' '2 3 2 3' '2 3')" --lamp
+try compare single.table "$(netlist 2 '' '2 3' '2 3')"
+try compare single.table "$(netlist 1 '' '2 3' '2 3')"
+try compare single.table "$(netlist 1 '' '2 3' '3 2')" --lamp
 try compare selector.table $q6
 try compare $q12 selector.table
 try compare selector.table no-such.table
@@ -469,6 +534,14 @@ for format in --blif --verilog --dot; do
     try export spare.table $format
     try export $only_spare $format
 done
+# With the lamp: of one output, of constants, of three outputs; constants that the lamp alone reads.
+for format in --blif --verilog --dot; do
+    try export single.table --lamp $format
+    try export $both_spare $format --lamp
+    try export lift-lamp.netlist $format
+    try export "$(netlist 1 '' '2 3' '0 1')" $format
+done
+pipe 'pilgodur export lift-lamp.netlist --dot >lift.dot; pilgodur export lift.table --lamp --dot | cmp - lift.dot'
 try export selector.netlist --blif -o selector.blif
 pipe 'pilgodur export selector.table --blif | cmp - selector.blif'
 try export selector.table
@@ -490,6 +563,13 @@ try check selector.table --lines
 try check selector.table -o out
 try list selector.table --all
 try list selector.table --blif
+try check selector.table --lamp
+try run selector.netlist 3 --lamp
+try probe selector.table 10=0 --lamp
+try dictionary selector.table --lamp
+try build selector.table --lamp=1
+try run selector.netlist 3 --l
+try build single.table --la
 try list selector.table --mend
 try list selector.table -x
 try list -xV selector.table

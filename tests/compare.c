@@ -1,5 +1,6 @@
-/* Compares the library with the reference, call by call, on boards with spare contacts in every place, on drawings of every kind and
- * on random cases, and asks the demands of boards that the library builds and of tables that it makes from drawings.
+/* Compares the library with the reference, call by call, on boards with spare contacts in every place, on lamps of every count of
+ * outputs and of every damage, on drawings of every kind and on random cases, and asks the demands of boards that the library builds
+ * and of tables that it makes from drawings.
  *
  *     compare [SEED [CASES]]
  *
@@ -23,18 +24,20 @@
 _Static_assert(PILGODUR_TABLE_MAX == TABLE_MAX, "the length of the longest table");
 
 enum { STRINGS = 5, NUMBERS = 5, REFUSALS = 18, NOISE = 1 << 19, MOST_DIFFERENCES = 10 };
-enum service { CHECK, BUILD, READ_OFF, RUN, PROBE, SHEET, FROM_DRAWING, SERVICES };
+enum service { CHECK, BUILD, BUILD_WITH_LAMP, READ_OFF, RUN, PROBE, SHEET, FROM_DRAWING, SERVICES };
 enum side { LIBRARY, REFERENCE, SIDES };
 
-static const char *const service_names[SERVICES] = {"check", "build", "read-off", "run", "probe", "sheet", "from-drawing"};
+static const char *const service_names[SERVICES] = {"check", "build", "build-with-lamp", "read-off", "run", "probe", "sheet",
+                                                     "from-drawing"};
 static const char *const side_names[SIDES] = {"library", "reference"};
-static const unsigned string_counts[SERVICES] = {1, 2, 1, 5, 3, 2, 2};
-static const unsigned number_counts[SERVICES] = {5, 2, 2, 1, 4, 2, 2};
+static const unsigned string_counts[SERVICES] = {1, 2, 2, 1, 5, 3, 2, 2};
+static const unsigned number_counts[SERVICES] = {5, 2, 2, 2, 1, 4, 2, 2};
 static const char *const string_names[SERVICES][STRINGS] = {
-    {"table"}, {"table", "file"}, {"table"}, {"netlist", "rails", "holds", "lines", "pairs"}, {"table", "hold", "buffer"},
-    {"netlist", "text"}, {"drawing", "table"}};
+    {"table"}, {"table", "file"}, {"table", "file"}, {"table"}, {"netlist", "rails", "holds", "lines", "pairs"},
+    {"table", "hold", "buffer"}, {"netlist", "text"}, {"drawing", "table"}};
 static const char *const number_names[SERVICES][NUMBERS] = {
     {"refusal", "contacts", "outputs", "gates", "depth"},
+    {"refusal", "length"},
     {"refusal", "length"},
     {"refusal", "word"},
     {"refusal"},
@@ -43,13 +46,16 @@ static const char *const number_names[SERVICES][NUMBERS] = {
     {"refusal", "length"}};
 
 /* The numbers that each service can give, as a set of bits. */
-static const unsigned possible[SERVICES] = {0xff, 0x2ff, 0x4ff, 0x7a01, 0xc2ff, 0x1a01, 0x30201};
+static const unsigned possible[SERVICES] = {0xff, 0x2ff, 0x2ff, 0x4ff, 0x7a01, 0xc2ff, 0x1a01, 0x30201};
 
-/* Sizes of netlists whose sheets are compared again and again: about the end of a page, with no gates, and the largest. */
+/* Sizes of netlists whose sheets are compared again and again: about the end of a page, with no gates, and the largest; the last number
+ * counts the lamp. */
 static const struct size {
-    unsigned gates, outputs;
-} sheet_sizes[] = {{48, 1}, {41, 8}, {49, 1}, {42, 8}, {50, 1}, {43, 8}, {99, 1}, {92, 8}, {100, 1}, {93, 8},
-                   {0, 1},  {0, 8},  {MOST_GATES, 8}};
+    unsigned gates, outputs, lamp;
+} sheet_sizes[] = {{48, 1, 0}, {41, 8, 0}, {49, 1, 0}, {42, 8, 0}, {50, 1, 0}, {43, 8, 0}, {99, 1, 0}, {92, 8, 0},  {100, 1, 0},
+                   {93, 8, 0}, {0, 1, 0},  {0, 8, 0},  {47, 1, 1}, {40, 8, 1}, {48, 1, 1}, {41, 8, 1}, {49, 1, 1},  {42, 8, 1},
+                   {98, 1, 1}, {91, 8, 1}, {99, 1, 1}, {92, 8, 1}, {0, 1, 1},  {0, 8, 1},  {10560, 8, 0}, {10591, 8, 1},
+                   {MOST_GATES, 8, 0}, {MOST_GATES, 8, 1}};
 enum { SHEET_SIZES = sizeof sheet_sizes / sizeof *sheet_sizes };
 
 /* One call: the strings in the order of the parameters. */
@@ -76,6 +82,7 @@ static unsigned long hits[SERVICES][REFUSALS];
 static unsigned long accepted_contacts[13], accepted_outputs[9], accepted_width[9], accepted_spare[13], spare_place[12];
 static unsigned long with_constant, all_constant, eleven_spare_of_12;
 static unsigned long sheets[SHEET_SIZES];
+static unsigned long lamp_outputs[9], lamps_of_constants, damaged_lamps[LAMP_DAMAGES];
 static unsigned long drawn_contacts[13], malformed[MALFORMATIONS];
 static unsigned long at_eight[13][12], at_nine[13][12]; /* drawings by contacts and level */
 static struct {
@@ -96,6 +103,9 @@ static struct answer perform(enum side side, const struct call *call)
         a = (struct answer){{r.refusal, r.contacts, r.outputs, r.gates, r.depth}};
     } else if (call->service == BUILD) {
         pilgodur_built r = (ours ? pilgodur_build : ref_build)(s[0].bytes, s[0].length, s[1].bytes, s[1].length);
+        a = (struct answer){{r.refusal, r.length}};
+    } else if (call->service == BUILD_WITH_LAMP) {
+        pilgodur_built r = (ours ? pilgodur_build_with_lamp : ref_build_with_lamp)(s[0].bytes, s[0].length, s[1].bytes, s[1].length);
         a = (struct answer){{r.refusal, r.length}};
     } else if (call->service == READ_OFF) {
         pilgodur_reading r = (ours ? pilgodur_read_off : ref_read_off)(s[0].bytes, s[0].length, call->input);
@@ -339,17 +349,23 @@ static uint32_t draw_input(const struct file *table)
     return kind < 94 ? (uint32_t)-1 - roll(&dice, 3) : roll(&dice, 1u << 31);
 }
 
-/* A netlist that gets a yes to questions 11 and 12: built from a table, or any. */
+static void build_netlist(const struct file *table, bool lamp, struct file *netlist)
+{
+    netlist->length = (lamp ? ref_build_with_lamp : ref_build)(table->bytes, table->length, netlist->bytes, FILE_ROOM).length;
+}
+
+/* A netlist that gets a yes to questions 11 and 12: built from a table, or any; half of them have a lamp. */
 static void draw_netlist(struct file *netlist)
 {
+    static struct file table;
     struct diagram diagram;
-    uint8_t table[TABLE_MAX];
     if (chance(&dice, 40)) {
         random_netlist(&dice, netlist);
         return;
     }
     draw_diagram(&diagram);
-    netlist->length = ref_build(table, table_of(&diagram, table), netlist->bytes, FILE_ROOM).length;
+    table.length = table_of(&diagram, table.bytes);
+    build_netlist(&table, chance(&dice, 50), netlist);
 }
 
 /* ---- Cases of each service. ---- */
@@ -363,6 +379,17 @@ static void draw_hold(unsigned lines, struct file *hold)
         not_one_hold(&dice, lines, hold);
 }
 
+/* Notes a netlist with a lamp that was built. The lines of its outputs stand before the seven bytes of tag 6. */
+static void note_lamp(const struct file *netlist)
+{
+    unsigned outputs = outputs_of(netlist), constants = 0;
+    const uint8_t *line = netlist->bytes + netlist->length - 7 - 4 * (size_t)outputs;
+    for (unsigned k = 0; k < 2 * outputs; k++)
+        constants += line[2 * k] == 0 && line[2 * k + 1] < 2;
+    lamp_outputs[outputs]++;
+    lamps_of_constants += outputs > 1 && constants > 0;
+}
+
 static void table_case(enum service service)
 {
     static struct file table, netlist, hold;
@@ -371,16 +398,17 @@ static void table_case(enum service service)
     give(&call, 0, &table);
     if (service == READ_OFF)
         call.input = draw_input(&table);
-    if (service == BUILD || service == PROBE) {
-        netlist.length = ref_build(table.bytes, table.length, netlist.bytes, FILE_ROOM).length;
+    if (service == BUILD || service == BUILD_WITH_LAMP || service == PROBE) {
+        build_netlist(&table, service == BUILD_WITH_LAMP, &netlist);
         size_t need = netlist.length != 0 ? netlist.length : roll(&dice, 300);
         unsigned lines = netlist.length != 0 ? lines_of(&netlist) : 2 + roll(&dice, 50);
-        lend_buffer(&call, service == BUILD ? 1 : 2, service == BUILD ? need : need + lines);
+        lend_buffer(&call, service == PROBE ? 2 : 1, service == PROBE ? need + lines : need);
         draw_hold(lines, &hold);
         if (service == PROBE)
             give(&call, 1, &hold);
     }
-    compare(&call);
+    if (compare(&call) == 0 && service == BUILD_WITH_LAMP)
+        note_lamp(&netlist);
 }
 
 /* A netlist damaged at questions 11 and 12, or random bytes in its place; most stay as they are. */
@@ -406,14 +434,14 @@ static void run_case(void)
     random_rails(&dice, contacts_of(&netlist), &rails);
     random_holds(&dice, lines, roll(&dice, 3), &holds);
     lend_buffer(&call, 3, lines);
-    lend_buffer(&call, 4, 2 * (size_t)outputs_of(&netlist));
+    lend_buffer(&call, 4, 2 * (size_t)pairs_of(&netlist));
     damage_some(&netlist);
     if (chance(&dice, 10))
         damage_rails(&dice, &rails);
     if (chance(&dice, 12))
         damage_holds(&dice, lines, &holds);
     call.need[3] = lines_of(&netlist);
-    call.need[4] = 2 * (size_t)outputs_of(&netlist);
+    call.need[4] = 2 * (size_t)pairs_of(&netlist);
     give(&call, 0, &netlist);
     give(&call, 1, &rails);
     give(&call, 2, &holds);
@@ -423,7 +451,7 @@ static void run_case(void)
 /* The bytes of the sheet of a netlist that gets a yes to question 11; of others some number. */
 static size_t sheet_length(const struct file *netlist)
 {
-    size_t rows = gates_of(netlist) + outputs_of(netlist), pages = (rows + 49) / 50;
+    size_t rows = gates_of(netlist) + pairs_of(netlist), pages = (rows + 49) / 50;
     return 22 * (rows + pages);
 }
 
@@ -445,7 +473,7 @@ static void compare_sizes(void)
     static struct file netlist;
     for (unsigned i = 0; i < SHEET_SIZES; i++) {
         unsigned contacts = sheet_sizes[i].gates == MOST_GATES ? 12 : 1 + roll(&dice, 12);
-        netlist_of_size(&dice, contacts, sheet_sizes[i].gates, sheet_sizes[i].outputs, &netlist);
+        netlist_of_size(&dice, contacts, sheet_sizes[i].gates, sheet_sizes[i].outputs, sheet_sizes[i].lamp, &netlist);
         size_t need = sheet_length(&netlist);
         for (unsigned k = 0; k < 3; k++) {
             struct call call = {.service = SHEET};
@@ -654,33 +682,58 @@ static void drawing_case(void)
 
 /* ---- Every service on one board, with buffers that are as long as needed and one byte short. ---- */
 
-static void services_but_probe(const struct file *table, const struct file *netlist)
+/* Run, whose second buffer has room for all pairs, for one byte less and, with a lamp, for all but its pair; sheet. */
+static void services_on_netlist(const struct file *netlist)
 {
     static struct file rails, holds;
-    unsigned contacts = contacts_of(netlist), lines = lines_of(netlist);
-    size_t pairs = 2 * (size_t)outputs_of(netlist), text = sheet_length(netlist);
+    unsigned lines = lines_of(netlist);
+    size_t pairs = 2 * (size_t)pairs_of(netlist), outputs = 2 * (size_t)outputs_of(netlist), text = sheet_length(netlist);
+    const size_t room[][2] = {{lines, pairs}, {lines - 1, pairs}, {lines, pairs - 1}, {lines, outputs}};
+    random_rails(&dice, contacts_of(netlist), &rails);
+    random_holds(&dice, lines, roll(&dice, 3), &holds);
+    for (unsigned k = 0; k < 4; k++) {
+        struct call run = {.service = RUN};
+        give(&run, 0, netlist);
+        give(&run, 1, &rails);
+        give(&run, 2, &holds);
+        lend_noise(&run, 3, lines, room[k][0]);
+        lend_noise(&run, 4, pairs, room[k][1]);
+        expect(&run, room[k][0] < lines || room[k][1] < pairs ? 9 : 0);
+    }
+    for (unsigned missing = 0; missing < 2; missing++) {
+        struct call sheet = {.service = SHEET};
+        give(&sheet, 0, netlist);
+        lend_noise(&sheet, 1, text, text - missing);
+        expect(&sheet, missing ? 9 : 0);
+    }
+}
+
+/* A build with and without the lamp, and the services on what it gives. */
+static void build_services(const struct file *table, bool lamp)
+{
+    static struct file netlist;
+    build_netlist(table, lamp, &netlist);
+    for (unsigned missing = 0; missing < 2; missing++) {
+        struct call build = {.service = lamp ? BUILD_WITH_LAMP : BUILD};
+        give(&build, 0, table);
+        lend_noise(&build, 1, netlist.length, netlist.length - missing);
+        expect(&build, missing ? 9 : 0);
+    }
+    if (lamp)
+        note_lamp(&netlist);
+    services_on_netlist(&netlist);
+}
+
+static void services_but_probe(const struct file *table)
+{
+    unsigned contacts = table->bytes[3];
     struct call check = {.service = CHECK}, read_off = {.service = READ_OFF, .input = roll(&dice, 1u << contacts)};
     give(&check, 0, table);
     expect(&check, 0);
     give(&read_off, 0, table);
     expect(&read_off, 0);
-    random_rails(&dice, contacts, &rails);
-    random_holds(&dice, lines, roll(&dice, 3), &holds);
-    for (unsigned missing = 0; missing < 2; missing++) {
-        struct call build = {.service = BUILD}, run = {.service = RUN}, sheet = {.service = SHEET};
-        give(&build, 0, table);
-        lend_noise(&build, 1, netlist->length, netlist->length - missing);
-        expect(&build, missing ? 9 : 0);
-        give(&run, 0, netlist);
-        give(&run, 1, &rails);
-        give(&run, 2, &holds);
-        lend_noise(&run, 3, lines, lines - missing);
-        lend_noise(&run, 4, pairs, pairs);
-        expect(&run, missing ? 9 : 0);
-        give(&sheet, 0, netlist);
-        lend_noise(&sheet, 1, text, text - missing);
-        expect(&sheet, missing ? 9 : 0);
-    }
+    build_services(table, false);
+    build_services(table, true);
 }
 
 /* Every line at both values. A spare contact's rail, which nothing reads, gives 15, whatever the buffer. */
@@ -709,9 +762,72 @@ static void compare_board(const struct diagram *diagram)
 {
     static struct file table, netlist;
     table.length = table_of(diagram, table.bytes);
-    netlist.length = ref_build(table.bytes, table.length, netlist.bytes, FILE_ROOM).length;
-    services_but_probe(&table, &netlist);
+    build_netlist(&table, false, &netlist);
+    services_but_probe(&table);
     probe_all_lines(diagram, &table, &netlist);
+}
+
+/* ---- Lamps. ---- */
+
+/* Run and sheet of a netlist that is refused with this number. */
+static void expect_refused(const struct file *netlist, uint32_t number)
+{
+    static struct file rails, holds;
+    struct call run = {.service = RUN}, sheet = {.service = SHEET};
+    random_rails(&dice, 1 + roll(&dice, 12), &rails);
+    holds.length = 0;
+    give(&run, 0, netlist);
+    give(&run, 1, &rails);
+    give(&run, 2, &holds);
+    lend_noise(&run, 3, 0, PILGODUR_LINES_MAX);
+    lend_noise(&run, 4, 0, PILGODUR_PAIRS_MAX);
+    expect(&run, number);
+    give(&sheet, 0, netlist);
+    lend_noise(&sheet, 1, 0, PILGODUR_SHEET_MAX);
+    expect(&sheet, number);
+}
+
+static void expect_damaged_lamp(enum lamp_damage kind, unsigned gates, unsigned outputs)
+{
+    static struct file netlist;
+    netlist_of_size(&dice, 1 + roll(&dice, 12), gates, outputs, true, &netlist);
+    damage_lamp(&dice, kind, &netlist);
+    expect_refused(&netlist, kind < LAMP_TRUE_LINE ? 11 : 12);
+    damaged_lamps[kind]++;
+}
+
+/* As many gates as there may be, and one more, with a lamp and without. */
+static void compare_most_gates(void)
+{
+    static struct file netlist;
+    for (unsigned lamp = 0; lamp < 2; lamp++) {
+        netlist_of_size(&dice, 12, MOST_GATES, 8, lamp, &netlist);
+        services_on_netlist(&netlist);
+        netlist_of_size(&dice, 12, MOST_GATES + 1, 8, lamp, &netlist);
+        expect_refused(&netlist, 11);
+    }
+}
+
+/* Lamps of so many outputs, drawn in several ways, also of constants alone, and damaged in every way. */
+static void compare_lamps(unsigned outputs)
+{
+    static struct file table;
+    struct diagram diagram;
+    for (unsigned contacts = 1; contacts <= 12; contacts++) {
+        random_diagram(&dice, contacts, outputs, &diagram);
+        table.length = table_of(&diagram, table.bytes);
+        services_but_probe(&table);
+        diagram = (struct diagram){.outputs = outputs, .width = {2}};
+        for (unsigned j = 0; j < outputs; j++)
+            diagram.output[j] = (uint8_t)roll(&dice, 2);
+        while (diagram.contacts < contacts)
+            insert_spare_contact(&diagram, 0);
+        table.length = table_of(&diagram, table.bytes);
+        services_but_probe(&table);
+    }
+    for (unsigned kind = 0; kind < LAMP_DAMAGES; kind++)
+        for (unsigned gates = 0; gates < 200; gates = 3 * gates + 1)
+            expect_damaged_lamp((enum lamp_damage)kind, gates, outputs);
 }
 
 static void compare_small_board(void)
@@ -798,10 +914,12 @@ static void check_some_drawing(void)
 static void random_case(void)
 {
     unsigned kind = roll(&dice, 100);
-    if (kind < 16)
+    if (kind < 14)
         table_case(CHECK);
-    else if (kind < 32)
+    else if (kind < 23)
         table_case(BUILD);
+    else if (kind < 32)
+        table_case(BUILD_WITH_LAMP);
     else if (kind < 45)
         table_case(READ_OFF);
     else if (kind < 59)
@@ -819,12 +937,12 @@ static void random_case(void)
 static bool print_hits(void)
 {
     bool all = true;
-    printf("%-12s", "refusal");
+    printf("%-15s", "refusal");
     for (unsigned number = 0; number < REFUSALS; number++)
         printf("%7u", number);
     printf("\n");
     for (unsigned service = 0; service < SERVICES; service++) {
-        printf("%-12s", service_names[service]);
+        printf("%-15s", service_names[service]);
         for (unsigned number = 0; number < REFUSALS; number++) {
             bool can_be = possible[service] >> number & 1;
             if (can_be)
@@ -854,13 +972,21 @@ static bool print_counts(const char *what, const unsigned long *count, unsigned 
 static bool print_sheets(void)
 {
     bool all = true;
-    printf("sheets by gates and outputs:");
+    printf("sheets by gates, outputs and lamp:");
     for (unsigned i = 0; i < SHEET_SIZES; i++) {
-        printf("%s %u+%u: %lu", i == 0 ? "" : ",", sheet_sizes[i].gates, sheet_sizes[i].outputs, sheets[i]);
+        printf("%s %u+%u+%u: %lu", i == 0 ? "" : ",", sheet_sizes[i].gates, sheet_sizes[i].outputs, sheet_sizes[i].lamp, sheets[i]);
         all = all && sheets[i] != 0;
     }
     printf("\n");
     return all;
+}
+
+static bool print_lamps(void)
+{
+    bool all = print_counts("lamps by outputs", lamp_outputs, 1, 8);
+    all = print_counts("damaged lamps by kind", damaged_lamps, 0, LAMP_DAMAGES - 1) && all;
+    printf("lamps that join constants: %lu\n", lamps_of_constants);
+    return all && lamps_of_constants != 0;
 }
 
 /* How often a level had just so many functions, from a level on; each that can have them must, for each count of contacts. */
@@ -907,15 +1033,21 @@ static int summary(void)
            with_constant, all_constant, eleven_spare_of_12);
     all = with_constant != 0 && all_constant != 0 && eleven_spare_of_12 != 0 && all;
     all = print_sheets() && all;
+    all = print_lamps() && all;
     all = print_drawings() && all;
     printf("boards checked by themselves: %lu, with %lu sheets, %lu runs, %lu sets of lines held one way, %lu probes, %lu of them of "
            "lines that nothing reads\n",
            demands.boards, demands.sheets, demands.inputs, demands.hold_sets, demands.probes, demands.unread);
+    printf("their lamps: run with lines held in any way %lu times, a code in %lu of them; with lines held one way %lu times, no code "
+           "in %lu of them; %lu single lines seen at the lamp\n",
+           demands.lamp_runs, demands.lamp_codes, demands.lamp_one_way, demands.lamp_no_codes, demands.lamp_seen);
+    all = demands.lamp_codes != 0 && demands.lamp_codes != demands.lamp_runs && demands.lamp_no_codes != 0 &&
+          demands.lamp_no_codes != demands.lamp_one_way && demands.lamp_seen != 0 && all;
     printf("drawings checked by themselves: %lu, %lu of them with more than eight functions in a level\n", demands.drawings,
            demands.too_wide);
     all = demands.too_wide != 0 && demands.too_wide != demands.drawings && all;
     if (!all)
-        printf("not every number that a service can give was hit, or a kind of table, sheet or drawing was missed\n");
+        printf("not every number that a service can give was hit, or a kind of table, sheet, lamp or drawing was missed\n");
     printf("%lu differences\n", differences + demands.failures);
     return all && differences + demands.failures == 0 ? 0 : 1;
 }
@@ -968,13 +1100,17 @@ int main(int argc, char **argv)
     watch_faults();
     for (unsigned contacts = 1; contacts <= 12; contacts++)
         compare_spare_contacts(contacts);
+    for (unsigned outputs = 1; outputs <= 8; outputs++)
+        compare_lamps(outputs);
     for (unsigned contacts = 1; contacts <= 12; contacts++)
         compare_drawings(contacts);
     count += cases; /* random ones, besides these */
     for (uint64_t i = 0; cases < count; i++) {
         random_case();
-        if (i % 20000 == 0)
+        if (i % 20000 == 0) {
             compare_sizes();
+            compare_most_gates();
+        }
         if (i % 400 == 0)
             compare_small_board();
         if (i % 50 == 0) {

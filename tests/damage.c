@@ -462,6 +462,16 @@ unsigned outputs_of(const struct file *netlist)
     return at < netlist->length ? (unsigned)field_length(netlist, at) / 4 : 0;
 }
 
+static bool has_lamp(const struct file *netlist)
+{
+    return field_place(netlist, 3) < netlist->length;
+}
+
+unsigned pairs_of(const struct file *netlist)
+{
+    return outputs_of(netlist) + has_lamp(netlist);
+}
+
 static unsigned random_gate_count(struct dice *dice)
 {
     unsigned kind = roll(dice, 100);
@@ -479,10 +489,17 @@ void random_netlist(struct dice *dice, struct file *file)
     unsigned contacts = 1 + roll(dice, 12);
     unsigned gates = random_gate_count(dice);
     unsigned outputs = 1 + roll(dice, 8);
-    netlist_of_size(dice, contacts, gates, outputs, file);
+    netlist_of_size(dice, contacts, gates, outputs, chance(dice, 50), file);
 }
 
-void netlist_of_size(struct dice *dice, unsigned contacts, unsigned gates, unsigned outputs, struct file *file)
+static void add_pairs(struct dice *dice, unsigned tag, unsigned pairs, unsigned lines, struct file *file)
+{
+    add_head(file, tag, 4 * pairs);
+    for (unsigned i = 0; i < 2 * pairs; i++)
+        add_two(file, chance(dice, 30) ? lines - 1 : roll(dice, lines));
+}
+
+void netlist_of_size(struct dice *dice, unsigned contacts, unsigned gates, unsigned outputs, bool lamp, struct file *file)
 {
     bool chained = chance(dice, 30);
     unsigned line = 2 + 2 * contacts;
@@ -495,16 +512,15 @@ void netlist_of_size(struct dice *dice, unsigned contacts, unsigned gates, unsig
         add_two(file, chained ? line - 1 - roll(dice, 3) : roll(dice, line));
         add_two(file, roll(dice, line));
     }
-    add_head(file, 5, 4 * outputs);
-    for (unsigned i = 0; i < 2 * outputs; i++)
-        add_two(file, chance(dice, 30) ? line - 1 : roll(dice, line));
+    add_pairs(dice, 5, outputs, line, file);
+    if (lamp)
+        add_pairs(dice, 6, 1, line, file);
 }
 
 /* Question 11, while the netlist is still sound: tags, lengths and what stands around them. */
 static void spoil_netlist_fields(struct dice *dice, struct file *file)
 {
-    unsigned k = roll(dice, 3);
-    size_t at = field_place(file, k);
+    size_t at = field_place(file, roll(dice, has_lamp(file) ? 4 : 3));
     switch (roll(dice, 7)) {
     case 0:
         set_tag(dice, file, at);
@@ -539,6 +555,52 @@ static void spoil_framing(struct dice *dice, struct file *file)
         spoil_contacts(dice, file);
 }
 
+/* Puts a field in another place, where the one with this number stands. */
+static void move_field(struct file *file, size_t at, unsigned to)
+{
+    uint8_t moved[3 + 4 * 8];
+    size_t length = 3 + field_length(file, at);
+    memcpy(moved, file->bytes + at, length);
+    erase(file, at, length);
+    at = field_place(file, to);
+    memmove(file->bytes + at + length, file->bytes + at, file->length - at);
+    memcpy(file->bytes + at, moved, length);
+    file->length += length;
+}
+
+/* A line that the netlist does not have, often the first of them. */
+static unsigned line_outside(struct dice *dice, unsigned lines)
+{
+    return lines + (chance(dice, 60) ? 0 : roll(dice, 65536 - lines));
+}
+
+void damage_lamp(struct dice *dice, enum lamp_damage kind, struct file *file)
+{
+    static const unsigned lengths[] = {[LAMP_OF_0] = 0, [LAMP_OF_3] = 3, [LAMP_OF_5] = 5, [LAMP_OF_8] = 8};
+    size_t at = field_place(file, 3);
+    if (kind == LAMP_TWICE) {
+        memcpy(file->bytes + file->length, file->bytes + at, 7);
+        file->length += 7;
+    } else if (kind <= LAMP_OF_8) {
+        resize_field(dice, file, at, lengths[kind]);
+    } else if (kind == LAMP_CUT_SHORT) {
+        file->length -= 1 + roll(dice, 6);
+    } else if (kind == LAMP_BEFORE_OUTPUTS || kind == LAMP_BEFORE_GATES) {
+        move_field(file, at, kind == LAMP_BEFORE_OUTPUTS ? 2 : 1);
+    } else if (kind == LAMP_FOR_OUTPUTS) {
+        erase_field(file, field_place(file, 2));
+    } else if (kind == LAMP_OF_ANOTHER_TAG) {
+        while (file->bytes[at] == 6)
+            set_tag(dice, file, at);
+    } else if (kind == FIELD_AFTER_LAMP) {
+        add_field(dice, file, file->length);
+    } else if (kind == BYTES_AFTER_LAMP) {
+        insert(dice, file, file->length, 1 + roll(dice, 2));
+    } else {
+        set_two_bytes(file->bytes + at + (kind == LAMP_TRUE_LINE ? 3 : 5), line_outside(dice, lines_of(file)));
+    }
+}
+
 /* Question 12: a kind, a source or an output line. */
 static void spoil_gates(struct dice *dice, struct file *file)
 {
@@ -546,7 +608,7 @@ static void spoil_gates(struct dice *dice, struct file *file)
     unsigned lines = lines_of(file);
     if (lines == first || chance(dice, 30)) {
         uint8_t *output = file->bytes + field_place(file, 2) + 3 + 2 * roll(dice, 2 * outputs_of(file));
-        set_two_bytes(output, lines + (chance(dice, 60) ? 0 : roll(dice, 65536 - lines)));
+        set_two_bytes(output, line_outside(dice, lines));
         return;
     }
     unsigned gate = roll(dice, lines - first);
@@ -560,6 +622,10 @@ static void spoil_gates(struct dice *dice, struct file *file)
 void damage_netlist(struct dice *dice, struct file *file)
 {
     unsigned kind = roll(dice, 100);
+    if (has_lamp(file) && chance(dice, 30)) {
+        damage_lamp(dice, (enum lamp_damage)roll(dice, LAMP_DAMAGES), file);
+        return;
+    }
     if (kind < 50)
         spoil_gates(dice, file);
     if (kind >= 40 && kind < 80)

@@ -4,7 +4,7 @@
 
 #include "drawings.h"
 
-enum { FILE_ROOM = 80000, MOST_GATES = 10560 };
+enum { FILE_ROOM = 80000, MOST_GATES = 10602 };
 
 struct file {
     size_t length;
@@ -30,19 +30,29 @@ void flip_bytes(struct dice *dice, struct file *file);
 void random_bytes(struct dice *dice, struct file *file);
 void random_fields(struct dice *dice, struct file *file);
 
-/* A netlist that gets a yes to questions 11 and 12, with up to 10,560 gates. */
+/* A netlist that gets a yes to questions 11 and 12, with up to 10,602 gates, with or without a lamp. */
 void random_netlist(struct dice *dice, struct file *file);
 
 /* The same with these counts. */
-void netlist_of_size(struct dice *dice, unsigned contacts, unsigned gates, unsigned outputs, struct file *file);
+void netlist_of_size(struct dice *dice, unsigned contacts, unsigned gates, unsigned outputs, bool lamp, struct file *file);
 
 void damage_netlist(struct dice *dice, struct file *file);
 
-/* The counts of a netlist that gets a yes to question 11; of others some numbers. */
+/* The ways in which a lamp can be damaged: those from LAMP_TRUE_LINE on are a matter of question 12, the others of 11. */
+enum lamp_damage {
+    LAMP_TWICE, LAMP_OF_0, LAMP_OF_3, LAMP_OF_5, LAMP_OF_8, LAMP_CUT_SHORT, LAMP_BEFORE_OUTPUTS, LAMP_BEFORE_GATES, LAMP_FOR_OUTPUTS,
+    LAMP_OF_ANOTHER_TAG, FIELD_AFTER_LAMP, BYTES_AFTER_LAMP, LAMP_TRUE_LINE, LAMP_FALSE_LINE, LAMP_DAMAGES
+};
+
+/* Damages the lamp of a good netlist that has one in this way. */
+void damage_lamp(struct dice *dice, enum lamp_damage kind, struct file *file);
+
+/* The counts of a netlist that gets a yes to question 11; of others some numbers. The lamp's pair is one of the pairs. */
 unsigned contacts_of(const struct file *netlist);
 unsigned lines_of(const struct file *netlist);
 unsigned gates_of(const struct file *netlist);
 unsigned outputs_of(const struct file *netlist);
+unsigned pairs_of(const struct file *netlist);
 
 void code_rails(unsigned contacts, uint32_t input, struct file *rails);
 void random_rails(struct dice *dice, unsigned contacts, struct file *rails);

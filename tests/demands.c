@@ -9,6 +9,7 @@
 #include "damage.h"
 
 enum { SMALL_BOARD = 60, SMALL_WORK = 100000, SOME_INPUTS = 16, HOLD_SETS = 12, SEEN = 1 << 17, ROW = 22 };
+enum { PLAIN_GATES = 10560 }; /* of a board without the lamp, at most */
 
 struct board {
     const struct diagram *diagram;
@@ -20,7 +21,7 @@ struct board {
     struct demands *demands;
 };
 
-static struct file netlist;
+static struct file netlist, with_lamp; /* the board's, without and with the lamp */
 static struct file rails;
 static struct file holds;
 static uint8_t lines[PILGODUR_LINES_MAX];
@@ -66,14 +67,14 @@ static unsigned log2_up(unsigned number)
     return k;
 }
 
-static unsigned depth_of_netlist(const struct board *board)
+static unsigned depth_of(const struct file *file)
 {
     static unsigned depth[PILGODUR_LINES_MAX];
-    unsigned first = 2 + 2 * board->diagram->contacts;
+    unsigned first = 2 + 2 * contacts_of(file);
     unsigned largest = 0;
     memset(depth, 0, sizeof depth);
-    for (unsigned line = first; line < board->lines; line++) {
-        const uint8_t *gate = netlist.bytes + 7 + 5 * (line - first);
+    for (unsigned line = first; line < lines_of(file); line++) {
+        const uint8_t *gate = file->bytes + 7 + 5 * (line - first);
         unsigned left = depth[two_bytes(gate + 1)];
         unsigned right = depth[two_bytes(gate + 3)];
         depth[line] = 1 + (left > right ? left : right);
@@ -92,12 +93,12 @@ static bool check_formulas(const struct board *board)
             w = d->width[level];
     unsigned most_gates = (d->contacts - 1) * w * w * (2 * w - 1);
     unsigned most_depth = log2_up(d->contacts) * (1 + log2_up(w));
-    if (board->checked.gates > most_gates || board->checked.gates > MOST_GATES)
+    if (board->checked.gates > most_gates || board->checked.gates > PLAIN_GATES)
         return fail(board, "%" PRIu32 " gates, the formula allows %u", board->checked.gates, most_gates);
     if (board->checked.depth > most_depth)
         return fail(board, "depth %" PRIu32 ", the formula allows %u", board->checked.depth, most_depth);
-    if (depth_of_netlist(board) != board->checked.depth)
-        return fail(board, "depth %" PRIu32 " reported, %u in the netlist", board->checked.depth, depth_of_netlist(board));
+    if (depth_of(&netlist) != board->checked.depth)
+        return fail(board, "depth %" PRIu32 " reported, %u in the netlist", board->checked.depth, depth_of(&netlist));
     return true;
 }
 
@@ -198,55 +199,81 @@ static uint8_t *put_two(uint8_t *at, unsigned number)
     return at + 2;
 }
 
-/* Writes what the rows from *row on give, as long as they are outputs, or are not, and their numbers rise from `number` by one.
- * Headings are passed over. Returns the end of what it wrote and moves *row to where it stopped. */
-static uint8_t *read_rows(const uint8_t **row, const uint8_t *end, bool outputs, unsigned number, uint8_t *at)
+static const char *const pair_kinds[] = {"OUT", "LMP"};
+
+/* Whether a row is of a pair of this kind, or of a gate if the kind is NULL. */
+static bool is_row_of(const uint8_t *row, const char *kind)
+{
+    if (kind != NULL)
+        return memcmp(row + 6, kind, 3) == 0;
+    return !is_row_of(row, pair_kinds[0]) && !is_row_of(row, pair_kinds[1]);
+}
+
+/* Writes what the rows from *row on give, as long as they are of this kind and their numbers rise from `number` by one. Headings are
+ * passed over. Returns the end of what it wrote and moves *row to where it stopped. */
+static uint8_t *read_rows(const uint8_t **row, const uint8_t *end, const char *kind, unsigned number, uint8_t *at)
 {
     for (; end - *row >= ROW; *row += ROW) {
-        const uint8_t *kind = *row + 6;
         if (memcmp(*row, " LINE KIN     A     B\n", ROW) == 0)
             continue;
-        if ((memcmp(kind, "OUT", 3) == 0) != outputs || number_at(*row) != number++)
+        if (!is_row_of(*row, kind) || number_at(*row) != number++)
             break;
-        if (!outputs)
-            *at++ = memcmp(kind, "OR ", 3) == 0;
+        if (kind == NULL)
+            *at++ = memcmp(*row + 6, "OR ", 3) == 0;
         at = put_two(put_two(at, number_at(*row + 10)), number_at(*row + 16));
     }
     return at;
 }
 
-static bool check_sheet(const struct board *board)
+/* Reads the whole sheet into a netlist file; returns its length, or 0 if rows are left over. */
+static size_t read_sheet(const uint8_t *text, size_t length, unsigned contacts, uint8_t *back)
+{
+    const uint8_t *row = text, *end = text + length;
+    memcpy(back, (uint8_t[]){1, 0, 1, (uint8_t)contacts, 4}, 5);
+    uint8_t *at = read_rows(&row, end, NULL, 2 + 2 * contacts, back + 7);
+    put_two(back + 5, (unsigned)(at - back - 7));
+    for (unsigned tag = 5; tag <= 6; tag++) {
+        uint8_t *after = read_rows(&row, end, pair_kinds[tag - 5], 0, at + 3);
+        if (after == at + 3)
+            continue;
+        *at = (uint8_t)tag;
+        put_two(at + 1, (unsigned)(after - at - 3));
+        at = after;
+    }
+    return row == end ? (size_t)(at - back) : 0;
+}
+
+static bool check_sheet(const struct board *board, const struct file *file)
 {
     static uint8_t text[PILGODUR_SHEET_MAX];
     static uint8_t back[FILE_ROOM];
-    pilgodur_built sheet = pilgodur_sheet(netlist.bytes, netlist.length, text, sizeof text);
-    const uint8_t *row = text, *end = text + sheet.length;
-    unsigned contacts = board->diagram->contacts;
+    pilgodur_built sheet = pilgodur_sheet(file->bytes, file->length, text, sizeof text);
     board->demands->sheets++;
     if (sheet.refusal != 0 || sheet.length > sizeof text)
         return fail(board, "a sheet is refused with %" PRIu32 ", or has %" PRIu32 " bytes", sheet.refusal, sheet.length);
-    memcpy(back, (uint8_t[]){1, 0, 1, (uint8_t)contacts, 4}, 5);
-    uint8_t *outputs = read_rows(&row, end, false, 2 + 2 * contacts, back + 7);
-    put_two(back + 5, (unsigned)(outputs - back - 7));
-    uint8_t *after = read_rows(&row, end, true, 0, outputs + 3);
-    outputs[0] = 5;
-    put_two(outputs + 1, (unsigned)(after - outputs - 3));
-    if (row != end || (size_t)(after - back) != netlist.length || memcmp(back, netlist.bytes, netlist.length) != 0)
+    if (read_sheet(text, sheet.length, board->diagram->contacts, back) != file->length ||
+        memcmp(back, file->bytes, file->length) != 0)
         return fail(board, "the sheet, read back, is not the netlist");
     return true;
 }
 
 /* ---- Runs. ---- */
 
-static bool run_board(const struct board *board, uint32_t input)
+/* Runs one of the board's netlists at the rails and with the holds that there are. */
+static bool run_file(const struct board *board, const struct file *file)
 {
-    code_rails(board->diagram->contacts, input, &rails);
-    uint32_t refusal = pilgodur_run(netlist.bytes, netlist.length, rails.bytes, rails.length, holds.bytes, holds.length,
-                                    lines, board->lines, pairs, 2 * board->diagram->outputs);
+    uint32_t refusal = pilgodur_run(file->bytes, file->length, rails.bytes, rails.length, holds.bytes, holds.length, lines,
+                                    lines_of(file), pairs, 2 * (size_t)pairs_of(file));
     board->demands->inputs++;
     if (refusal != 0)
         return fail(board, "a run is refused with %" PRIu32, refusal);
     return true;
+}
+
+static bool run_board(const struct board *board, uint32_t input)
+{
+    code_rails(board->diagram->contacts, input, &rails);
+    return run_file(board, &netlist);
 }
 
 static bool right_code(const struct board *board, unsigned output, uint32_t input)
@@ -279,11 +306,9 @@ static bool check_all_permits(struct dice *dice, const struct board *board)
     return true;
 }
 
-/* With lines held all at `way`, each pair is right or shows `way` twice. */
+/* With lines held all at `way`, each pair of the last run is right or shows `way` twice. */
 static bool check_one_way(const struct board *board, uint32_t input, unsigned way)
 {
-    if (!run_board(board, input))
-        return false;
     for (unsigned j = 0; j < board->diagram->outputs; j++)
         if (!right_code(board, j, input) && (pairs[2 * j] != way || pairs[2 * j + 1] != way))
             return fail(board, "input %" PRIu32 ", %zu lines held at %u: output %u shows %u%u", input, holds.length / 3, way,
@@ -297,10 +322,121 @@ static bool check_hold_sets(struct dice *dice, const struct board *board)
     for (unsigned i = 0; i < HOLD_SETS; i++) {
         random_holds(dice, board->lines, i % 2, &holds);
         board->demands->hold_sets++;
-        for (uint32_t k = 0; k < SOME_INPUTS && k < inputs; k++)
-            if (!check_one_way(board, inputs <= SOME_INPUTS ? k : roll(dice, inputs), i % 2))
+        for (uint32_t k = 0; k < SOME_INPUTS && k < inputs; k++) {
+            uint32_t input = inputs <= SOME_INPUTS ? k : roll(dice, inputs);
+            if (!run_board(board, input) || !check_one_way(board, input, i % 2))
+                return false;
+        }
+    }
+    return true;
+}
+
+/* ---- The lamp. ---- */
+
+/* The plain board's gates and outputs, six gates more for each join, no more depth than is allowed; of one output its pair. */
+static bool build_lamp(const struct board *board)
+{
+    unsigned m = board->diagram->outputs, added = 6 * (m - 1);
+    pilgodur_built built = pilgodur_build_with_lamp(board->table, board->table_length, with_lamp.bytes, FILE_ROOM);
+    with_lamp.length = built.length;
+    if (built.refusal != 0 || built.length != board->length + 5 * added + 7 || lines_of(&with_lamp) != board->lines + added ||
+        contacts_of(&with_lamp) != board->diagram->contacts || pairs_of(&with_lamp) != m + 1)
+        return fail(board, "the lamp's counts are not those of the plain board and its joins");
+    const uint8_t *outputs = netlist.bytes + board->length - 4 * m, *lamp = with_lamp.bytes + with_lamp.length - 4;
+    if (memcmp(with_lamp.bytes + 7, netlist.bytes + 7, 5 * (size_t)board->checked.gates) != 0 ||
+        memcmp(lamp - 3 - 4 * m, outputs, 4 * (size_t)m) != 0)
+        return fail(board, "with the lamp the plain board's gates or outputs are others");
+    if (m == 1 && memcmp(lamp, outputs, 4) != 0)
+        return fail(board, "the lamp of one output is not its pair");
+    if (depth_of(&with_lamp) > board->checked.depth + 2 * log2_up(m))
+        return fail(board, "depth %u with the lamp", depth_of(&with_lamp));
+    return check_sheet(board, &with_lamp);
+}
+
+static bool is_code(unsigned output)
+{
+    return pairs[2 * output] != pairs[2 * output + 1];
+}
+
+/* At any rails, with lines of the plain board held in any way: the lamp is a code exactly if every pair is. */
+static bool check_lamp_is_code(struct dice *dice, const struct board *board)
+{
+    unsigned m = board->diagram->outputs;
+    for (unsigned i = 0; i < HOLD_SETS; i++) {
+        random_rails(dice, board->diagram->contacts, &rails);
+        random_holds(dice, board->lines, roll(dice, 3), &holds);
+        if (!run_file(board, &with_lamp))
+            return false;
+        bool codes = true;
+        for (unsigned j = 0; j < m; j++)
+            codes = codes && is_code(j);
+        if (is_code(m) != codes)
+            return fail(board, "the lamp shows %u%u, and the pairs are %s", pairs[2 * m], pairs[2 * m + 1], codes ? "codes" : "not");
+        board->demands->lamp_runs++;
+        board->demands->lamp_codes += codes;
+    }
+    return true;
+}
+
+/* The lamp's true line at a code input with no line held: 1 if the count of outputs that are 0 is even. */
+static unsigned own_code(const struct board *board, uint32_t input)
+{
+    unsigned even = 1;
+    for (unsigned j = 0; j < board->diagram->outputs; j++)
+        even ^= 1 - value_at(board->diagram, j, input);
+    return even;
+}
+
+/* At a code input, with lines held all at `way`, those of the lamp too: its own code, which it has with none held, or `way` twice. */
+static bool check_lamp_one_way(const struct board *board, uint32_t input, unsigned way)
+{
+    unsigned m = board->diagram->outputs;
+    size_t held = holds.length;
+    code_rails(board->diagram->contacts, input, &rails);
+    holds.length = 0;
+    if (!run_file(board, &with_lamp))
+        return false;
+    uint8_t own[2] = {pairs[2 * m], pairs[2 * m + 1]};
+    holds.length = held;
+    if (!run_file(board, &with_lamp) || !check_one_way(board, input, way))
+        return false;
+    unsigned even = own_code(board, input);
+    if (own[0] != even || own[1] != 1 - even)
+        return fail(board, "input %" PRIu32 ", no line held: the lamp shows %u%u", input, own[0], own[1]);
+    if (memcmp(pairs + 2 * m, own, 2) != 0 && (pairs[2 * m] != way || pairs[2 * m + 1] != way))
+        return fail(board, "input %" PRIu32 ", %zu lines held at %u: the lamp shows %u%u", input, holds.length / 3, way, pairs[2 * m],
+                    pairs[2 * m + 1]);
+    board->demands->lamp_one_way++;
+    board->demands->lamp_no_codes += !is_code(m);
+    return true;
+}
+
+static bool check_lamp(struct dice *dice, const struct board *board)
+{
+    uint32_t inputs = 1u << board->diagram->contacts;
+    if (!build_lamp(board) || !check_lamp_is_code(dice, board))
+        return false;
+    for (unsigned i = 0; i < HOLD_SETS; i++) {
+        random_holds(dice, lines_of(&with_lamp), i % 2, &holds);
+        board->demands->hold_sets++;
+        for (unsigned k = 0; k < 4; k++)
+            if (!check_lamp_one_way(board, roll(dice, inputs), i % 2))
                 return false;
     }
+    return true;
+}
+
+/* Where the probe of a held line shows it the lamp shows it, too. */
+static bool check_seen_at_lamp(const struct board *board, unsigned line, unsigned way, uint32_t input)
+{
+    unsigned m = board->diagram->outputs;
+    code_rails(board->diagram->contacts, input, &rails);
+    if (!run_file(board, &with_lamp))
+        return false;
+    if (pairs[2 * m] != way || pairs[2 * m + 1] != way)
+        return fail(board, "line %u held at %u is seen at input %" PRIu32 ", and the lamp shows %u%u", line, way, input, pairs[2 * m],
+                    pairs[2 * m + 1]);
+    board->demands->lamp_seen++;
     return true;
 }
 
@@ -320,7 +456,7 @@ static bool check_seen(const struct board *board, const pilgodur_probed *probed,
     if (memcmp(probed_bytes, netlist.bytes, board->length) != 0 ||
         memcmp(probed_bytes + board->length, lines, board->lines) != 0)
         return fail(board, "probe's buffer is not the netlist with the line values of the run");
-    return true;
+    return check_seen_at_lamp(board, line, way, input);
 }
 
 /* No input shows the line. */
@@ -369,8 +505,8 @@ void check_board(struct dice *dice, const struct diagram *diagram, struct demand
 {
     struct board board = {.diagram = diagram, .demands = demands};
     demands->boards++;
-    if (build_board(&board) && check_what_is_read(&board) && check_new_netlist(&board) && check_sheet(&board) &&
-        check_all_permits(dice, &board) && check_hold_sets(dice, &board))
+    if (build_board(&board) && check_what_is_read(&board) && check_new_netlist(&board) &&
+        check_sheet(&board, &netlist) && check_all_permits(dice, &board) && check_hold_sets(dice, &board) && check_lamp(dice, &board))
         check_probes(&board);
 }
 

@@ -7,6 +7,7 @@
 
 struct demands {
     unsigned long boards, sheets, inputs, hold_sets, probes, unread, drawings, too_wide, failures;
+    unsigned long lamp_runs, lamp_codes, lamp_one_way, lamp_no_codes, lamp_seen;
 };
 
 /* Builds the board of an accepted diagram and checks
@@ -15,8 +16,11 @@ struct demands {
  *   its sheet: read back, with the count of contacts, it is the netlist;
  *   its permits: at every code input each pair shows the table's value and its opposite;
  *   random sets of lines held all at 0 or all at 1: no pair shows the wrong code;
+ *   its lamp: six gates a join after the board's own, at most 2 * ceil(log2(outputs)) more depth; with lines of the plain
+ *   board held in any way, at any rails, a code exactly if every pair is; with lines held all one way, its own too, at code
+ *   inputs, its code or 00 for lines held at 0 or 11 for lines held at 1;
  *   on small boards every line held at 0 and at 1: probe finds the smallest input that shows it, or refuses a line that nothing
- *   reads, and no input shows that one.
+ *   reads, and no input shows that one; where probe sees a line the lamp shows it, too.
  * Large boards are run at some inputs only, but for every eighth of them. */
 void check_board(struct dice *dice, const struct diagram *diagram, struct demands *demands);
 

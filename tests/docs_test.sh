@@ -65,6 +65,18 @@ sed -n '/^    \$ pilgodur list/,/^$/p' "$root/README.md" | sed '1d; $d; s/^    /
 "$bench" list selector.table >said
 same "README's example of list" said listing
 
+# What is shown under README's two commands about the lamp is what the second says after the first.
+sed -n '/^    \$ pilgodur build --lamp/,/^$/p' "$root/README.md" | sed 's/^    //' >shown
+sed '1,2d; $d' shown >page
+cp "$root/examples/spare.table" .
+sed -n 's/^\$ pilgodur //p' shown >commands
+while read -r command; do
+    # shellcheck disable=SC2086
+    "$bench" $command >said
+done <commands
+[ "$(wc -l <commands)" -eq 2 ] || complain "README's example of the lamp has other commands"
+same "README's example of the lamp" said page
+
 sed -n '/^    \$ cat both.drawing/,/^    \$ pilgodur draw/p' "$root/README.md" | sed '1d; $d; s/^    //' >both.drawing
 sed -n '/^    \$ pilgodur draw both.drawing/,/^$/p' "$root/README.md" | sed '1d; $d; s/^    //' >drawn
 "$bench" draw both.drawing >said
@@ -88,21 +100,21 @@ gates() {
     grep -o '[0-9][0-9]* *=* *\(AND\|OR\) [0-9][0-9]* [0-9][0-9]*' | tr -d '=' | tr -s ' '
 }
 listed() {
-    "$bench" list "hex:$1" | sed -n 's/^ *\([0-9]*\) *\(AND\|OR\) *\([0-9]*\) *\([0-9]*\)$/\1 \2 \3 \4/p'
+    "$bench" list "hex:$1" ${2-} | sed -n 's/^ *\([0-9]*\) *\(AND\|OR\) *\([0-9]*\) *\([0-9]*\)$/\1 \2 \3 \4/p'
 }
 # table_of SECTION WORD: takes the table that stands in a section before a word.
 table_of() {
     section "$1" | sed "/$2/,\$d" | bytes >table
 }
-# same_netlist SECTION, same_gates SECTION: what the section says of its table's netlist is what the program builds.
+# same_netlist SECTION [--lamp], same_gates SECTION [--lamp]: what the section says of its table's netlist is what the program builds.
 same_netlist() {
     section "$1" | sed '1,/netlist file/d' | bytes | sed 's/^/hex:/; s/$/\n/' >page
-    "$bench" build "hex:$(cat table)" >said
+    "$bench" build "hex:$(cat table)" ${2-} >said
     same "the netlist under '$1' in docs/RULES.md" said page
 }
 same_gates() {
     section "$1" | gates >page
-    listed "$(cat table)" >said
+    listed "$(cat table)" ${2-} >said
     same "the gates under '$1' in docs/RULES.md" said page
 }
 table_of 'The selector' 'Rails:'
@@ -117,6 +129,13 @@ same_gates 'A second board'
 table_of 'A third board' 'matrices'
 same_netlist 'A third board'
 same_gates 'A third board'
+table_of 'A fourth board' 'matrices'
+same_netlist 'A fourth board' --lamp
+same_gates 'A fourth board' --lamp
+[ "$(wc -l <page)" -eq 15 ] || complain "the fourth board in docs/RULES.md has another count of gates"
+section 'A fourth board' | sed '1,/^Its sheet/d' | sed -n 's/^    //p' >page
+"$bench" list "hex:$(cat table)" --lamp | tail -n 3 >said
+same "the fourth board's rows in docs/RULES.md" said page
 
 # The worked drawing: its text is that of examples/, and its text and its bytes have the page's table.
 section 'A drawing' | sed -n '/Its text, /,/^Its bytes/p' | sed '1,2d; $d' | sed '$d; s/^    //' >text

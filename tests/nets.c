@@ -29,6 +29,8 @@ unsigned net_of(const char *name)
         return OUTPUT_NETS + 2 * number;
     if (sscanf(name, "output%u_%7s", &number, rail) == 2 && number < 8 && strcmp(rail, "false") == 0)
         return OUTPUT_NETS + 2 * number + 1;
+    if (strcmp(name, "lamp_true") == 0 || strcmp(name, "lamp_false") == 0)
+        return LAMP_NETS + (name[5] == 'f');
     give_up("%s is no net", name);
 }
 

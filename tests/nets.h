@@ -6,10 +6,10 @@
 
 #include "../include/pilgodur.h"
 
-enum { OUTPUT_NETS = PILGODUR_LINES_MAX, NETS = OUTPUT_NETS + PILGODUR_PAIRS_MAX };
+enum { OUTPUT_NETS = PILGODUR_LINES_MAX, NETS = OUTPUT_NETS + PILGODUR_PAIRS_MAX, LAMP_NETS = NETS - 2 };
 enum form { NOTHING, PORT, ZERO, ONE, COPY, AND, OR };
 
-/* Net k is line k; the nets of the outputs follow from OUTPUT_NETS on, true before false. */
+/* Net k is line k; the nets of the outputs follow from OUTPUT_NETS on, true before false, and those of the lamp are the last two. */
 struct net {
     bool declared; /* as an input, output or wire */
     enum form form;

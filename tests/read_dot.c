@@ -17,6 +17,9 @@ static void dot_node(const char *name, const char *rest)
     if (sscanf(label, "label=\"output %u %7[a-z]\"", &number, rail) == 2) {
         net->form = COPY;
         number = OUTPUT_NETS + 2 * number + is(rail, "false");
+    } else if (sscanf(label, "label=\"lamp %7[a-z]\"", rail) == 1) {
+        net->form = COPY;
+        number = LAMP_NETS + is(rail, "false");
     } else if (sscanf(label, "label=\"%u contact %u %7[a-z]\"", &number, &contact, rail) == 3) {
         net->form = number == 2 + 2 * contact + is(rail, "false") ? PORT : NOTHING;
     } else if (sscanf(label, "label=\"%u %15[a-zA-Z]\"", &number, word) == 2) {

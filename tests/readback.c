@@ -3,7 +3,8 @@
  *     readback blif|verilog|dot EXPORT NETLIST
  *
  * Every net must be driven as the netlist says, every gate under its line's number with its sources in their sequence, and at code
- * inputs and other rails every net must have the value that the library's run gives its line. Exit status 0: so it is. */
+ * inputs and other rails every net must have the value that the library's run gives its line, or its output or lamp. There must be
+ * a lamp exactly if the netlist has one. Exit status 0: so it is. */
 #include <stdio.h>
 
 #include "nets.h"
@@ -37,22 +38,38 @@ static void check_gate(unsigned line, const uint8_t *gate)
     require(nets[first].form != NOTHING && nets[second].form != NOTHING, "a source of line", line);
 }
 
-static void check_structure(unsigned contacts, unsigned gates, unsigned outputs)
+/* Where the netlist has the line of a net of an output or of the lamp; NULL if it has no such output, or no lamp. */
+static const uint8_t *line_of_net(unsigned net)
+{
+    const uint8_t *outputs = netlist + 7 + two_bytes(netlist + 5);
+    unsigned length = two_bytes(outputs + 1), at = 2 * (net - OUTPUT_NETS);
+    const uint8_t *lamp = outputs + 3 + length;
+    if (net >= LAMP_NETS)
+        return lamp == netlist + netlist_length ? NULL : lamp + 3 + 2 * (net - LAMP_NETS);
+    return at < length ? outputs + 3 + at : NULL;
+}
+
+static void check_pair_net(unsigned number)
+{
+    const struct net *net = &nets[number];
+    const uint8_t *line = line_of_net(number);
+    bool right = line == NULL ? net->form == NOTHING && !net->declared
+                              : net->declared && net->form == COPY && net->source[0] == two_bytes(line) &&
+                                    nets[net->source[0]].form != NOTHING;
+    require(right, number < LAMP_NETS ? "output" : "lamp", (number - OUTPUT_NETS) / 2);
+}
+
+static void check_structure(unsigned contacts, unsigned gates)
 {
     unsigned first = 2 + 2 * contacts;
-    const uint8_t *pair = netlist + 4 + 3 + 5 * gates + 3;
     for (unsigned line = 2; line < first; line++)
         require(nets[line].form == PORT, "rail", line);
     for (unsigned g = 0; g < gates; g++)
         check_gate(first + g, netlist + 7 + 5 * g);
     for (unsigned line = first + gates; line < OUTPUT_NETS; line++)
         require(nets[line].form == NOTHING && !nets[line].declared, "line", line);
-    for (unsigned k = 0; k < PILGODUR_PAIRS_MAX; k++) {
-        const struct net *net = &nets[OUTPUT_NETS + k];
-        bool right = k < 2 * outputs ? net->declared && net->form == COPY && net->source[0] == two_bytes(pair + 2 * k)
-                                     : net->form == NOTHING && !net->declared;
-        require(right && (k >= 2 * outputs || nets[net->source[0]].form != NOTHING), "output", k / 2);
-    }
+    for (unsigned net = OUTPUT_NETS; net < NETS; net++)
+        check_pair_net(net);
 }
 
 static unsigned value_of(const struct net *net, const uint8_t *values)
@@ -61,7 +78,7 @@ static unsigned value_of(const struct net *net, const uint8_t *values)
     return net->form == AND ? a & b : net->form == OR ? a | b : net->form == COPY ? a : net->form == ONE;
 }
 
-static void check_run(unsigned contacts, unsigned lines, unsigned outputs, const uint8_t *rails)
+static void check_run(unsigned contacts, unsigned lines, const uint8_t *rails)
 {
     static uint8_t values[NETS], expected[PILGODUR_LINES_MAX];
     uint8_t pairs[PILGODUR_PAIRS_MAX];
@@ -72,11 +89,12 @@ static void check_run(unsigned contacts, unsigned lines, unsigned outputs, const
         values[line] = (uint8_t)(nets[line].form == PORT ? rails[line - 2] : value_of(&nets[line], values));
         require(nets[line].form == NOTHING || values[line] == expected[line], "the value of line", line);
     }
-    for (unsigned k = 0; k < 2 * outputs; k++)
-        require(value_of(&nets[OUTPUT_NETS + k], values) == pairs[k], "the value of output", k / 2);
+    for (unsigned net = OUTPUT_NETS, k = 0; net < NETS; net++)
+        if (line_of_net(net) != NULL)
+            require(value_of(&nets[net], values) == pairs[k++], "the value of output", (net - OUTPUT_NETS) / 2);
 }
 
-static void check_runs(unsigned contacts, unsigned lines, unsigned outputs)
+static void check_runs(unsigned contacts, unsigned lines)
 {
     struct dice dice = {1};
     for (unsigned trial = 0; trial < TRIALS; trial++) {
@@ -88,7 +106,7 @@ static void check_runs(unsigned contacts, unsigned lines, unsigned outputs)
             if (trial >= 2 * TRIALS / 3)
                 rails[2 * i + 1] = (uint8_t)roll(&dice, 2);
         }
-        check_run(contacts, lines, outputs, rails);
+        check_run(contacts, lines, rails);
     }
 }
 
@@ -120,8 +138,7 @@ int main(int argc, char **argv)
         read_dot(text);
     unsigned contacts = netlist[3];
     unsigned gates = two_bytes(netlist + 5) / 5;
-    unsigned outputs = two_bytes(netlist + 8 + 5 * gates) / 4;
-    check_structure(contacts, gates, outputs);
-    check_runs(contacts, 2 + 2 * contacts + gates, outputs);
+    check_structure(contacts, gates);
+    check_runs(contacts, 2 + 2 * contacts + gates);
     return 0;
 }

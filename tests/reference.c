@@ -1,6 +1,6 @@
-/* Tables become linked nodes, netlists become linked symbolic terms that get their numbers last, permits are read off truth
- * tables, lines are worked out by need, from the outputs back to the rails, sheets are printed row by row to a stream, and drawings
- * are reduced from the last level up until equal functions are one node. Clarity before speed. */
+/* Tables become linked nodes, netlists become linked symbolic terms that get their numbers last, the lamp's too, permits are read off
+ * truth tables, lines are worked out by need, from the outputs back to the rails, sheets are printed row by row to a stream, and
+ * drawings are reduced from the last level up until equal functions are one node. Clarity before speed. */
 #define _XOPEN_SOURCE 700
 #include "reference.h"
 
@@ -291,6 +291,8 @@ struct board {
     struct term **end;
     unsigned gates, depth;
     const struct term *output[8][2];
+    bool has_lamp;
+    const struct term *lamp[2];
 };
 
 static struct term never = {.form = NEVER, .line = 0};
@@ -402,24 +404,63 @@ static void make_rails(struct board *board)
         }
 }
 
-static void make_board(struct pool *pool, const struct diagram *diagram, struct board *board)
+static void make_permits(struct board *board)
 {
-    memset(board, 0, sizeof *board);
-    board->pool = pool;
-    board->diagram = diagram;
-    board->end = &board->first;
-    make_rails(board);
+    const struct diagram *diagram = board->diagram;
     const struct matrix *whole = block(board, 0, diagram->contacts);
     for (unsigned j = 0; j < diagram->outputs; j++)
         for (unsigned value = 0; value < 2; value++)
             board->output[j][value] = whole->entry[diagram->output[j]->number][value];
-    unsigned line = 2 + 2 * diagram->contacts;
+}
+
+/* One rail of a join: of the two pairs a and b, the OR of the ANDs of a's true line with b's `value` line and of a's false line with
+ * b's other line. */
+static const struct term *join_rail(struct board *board, const struct term *const *a, const struct term *const *b, unsigned value)
+{
+    const struct term *first = make_gate(board, AND, a[1], b[value]);
+    const struct term *second = make_gate(board, AND, a[0], b[1 - value]);
+    return make_gate(board, OR, first, second);
+}
+
+/* The one pair of the outputs from `from` on, so many, halved as ORs are. */
+static void join_outputs(struct board *board, unsigned from, unsigned count, const struct term **pair)
+{
+    if (count == 1) {
+        pair[0] = board->output[from][0];
+        pair[1] = board->output[from][1];
+        return;
+    }
+    const struct term *left[2], *right[2];
+    unsigned half = (count + 1) / 2;
+    join_outputs(board, from, half, left);
+    join_outputs(board, from + half, count - half, right);
+    pair[1] = join_rail(board, left, right, 1);
+    pair[0] = join_rail(board, left, right, 0);
+}
+
+static void number_gates(struct board *board)
+{
+    unsigned line = 2 + 2 * board->diagram->contacts;
     for (struct term *gate = board->first; gate != NULL; gate = gate->later) {
         gate->line = line++;
         board->gates++;
         if (gate->depth > board->depth)
             board->depth = gate->depth;
     }
+}
+
+static void make_board(struct pool *pool, const struct diagram *diagram, bool lamp, struct board *board)
+{
+    memset(board, 0, sizeof *board);
+    board->pool = pool;
+    board->diagram = diagram;
+    board->end = &board->first;
+    board->has_lamp = lamp;
+    make_rails(board);
+    make_permits(board);
+    if (lamp)
+        join_outputs(board, 0, diagram->outputs, board->lamp);
+    number_gates(board);
 }
 
 /* ---- The netlist file. ---- */
@@ -437,7 +478,7 @@ static uint8_t *put_two(uint8_t *at, unsigned number)
 
 static size_t file_length(const struct board *board)
 {
-    return 4 + (3 + 5 * (size_t)board->gates) + (3 + 4 * (size_t)board->diagram->outputs);
+    return 4 + (3 + 5 * (size_t)board->gates) + (3 + 4 * (size_t)board->diagram->outputs) + (board->has_lamp ? 3 + 4 : 0);
 }
 
 static void write_file(const struct board *board, uint8_t *at)
@@ -450,6 +491,8 @@ static void write_file(const struct board *board, uint8_t *at)
     at = put_two(put(at, 5), 4 * board->diagram->outputs);
     for (unsigned j = 0; j < board->diagram->outputs; j++)
         at = put_two(put_two(at, board->output[j][1]->line), board->output[j][0]->line);
+    if (board->has_lamp)
+        put_two(put_two(put_two(put(at, 6), 4), board->lamp[1]->line), board->lamp[0]->line);
 }
 
 /* ---- Runs: lines worked out by need. ---- */
@@ -466,8 +509,9 @@ struct wire {
 
 struct netlist {
     unsigned contacts, gates, outputs, lines;
+    unsigned pairs; /* those of the outputs, and the lamp's after them if there is one */
     struct wire *wire;
-    unsigned pair[8][2];
+    unsigned pair[9][2];
 };
 
 static int value_of(struct wire *wire, unsigned line)
@@ -495,12 +539,51 @@ static void set_rails(struct netlist *netlist, const uint8_t *rails)
 
 static bool is_gates(const struct field *field)
 {
-    return is_field(field, 4, 0, 5 * 10560) && field->length % 5 == 0;
+    return is_field(field, 4, 0, 5 * 10602) && field->length % 5 == 0;
 }
 
 static bool is_outputs(const struct field *field)
 {
     return is_field(field, 5, 4, 4 * 8) && field->length % 4 == 0;
+}
+
+/* Nothing, or the lamp and nothing after it. */
+static bool is_lamp_or_end(const struct field *field)
+{
+    return field == NULL || (is_field(field, 6, 4, 4) && field->next == NULL);
+}
+
+/* Lays the wires of the gates; whether kinds and sources are sound. */
+static bool read_gates(struct netlist *netlist, const uint8_t *gates)
+{
+    unsigned first_gate = netlist->lines - netlist->gates;
+    bool sound = true;
+    for (unsigned line = 0; line < netlist->lines; line++) {
+        struct wire *w = &netlist->wire[line];
+        w->held = UNKNOWN;
+        w->is_gate = line >= first_gate;
+        if (!w->is_gate)
+            continue;
+        const uint8_t *gate = gates + 5 * (line - first_gate);
+        w->kind = gate[0];
+        w->left = two_bytes(gate + 1);
+        w->right = two_bytes(gate + 3);
+        sound = sound && w->kind <= 1 && w->left < line && w->right < line;
+    }
+    return sound;
+}
+
+/* Takes the pairs of a field behind those that there are; whether their lines are in the netlist. */
+static bool read_pairs(struct netlist *netlist, const struct field *field)
+{
+    bool sound = true;
+    for (size_t at = 0; at < field->length; at += 4) {
+        unsigned *pair = netlist->pair[netlist->pairs++];
+        pair[0] = two_bytes(field->value + at);
+        pair[1] = two_bytes(field->value + at + 2);
+        sound = sound && pair[0] < netlist->lines && pair[1] < netlist->lines;
+    }
+    return sound;
 }
 
 /* Questions 11 and 12; the netlist is there if both get a yes. */
@@ -509,34 +592,18 @@ static uint32_t read_netlist(struct pool *pool, const uint8_t *file, size_t leng
     bool whole;
     const struct field *contacts = fields_of(pool, file, length, &whole);
     if (!whole || !is_contacts(contacts) || !is_gates(contacts->next) || !is_outputs(contacts->next->next) ||
-        contacts->next->next->next != NULL)
+        !is_lamp_or_end(contacts->next->next->next))
         return 11;
     const struct field *gates = contacts->next;
     const struct field *outputs = gates->next;
     netlist->contacts = contacts->value[0];
     netlist->gates = (unsigned)gates->length / 5;
     netlist->outputs = (unsigned)outputs->length / 4;
-    unsigned first_gate = 2 + 2 * netlist->contacts;
-    netlist->lines = first_gate + netlist->gates;
+    netlist->lines = 2 + 2 * netlist->contacts + netlist->gates;
     netlist->wire = take(pool, netlist->lines * sizeof *netlist->wire);
-    bool sound = true;
-    for (unsigned line = 0; line < netlist->lines; line++) {
-        struct wire *w = &netlist->wire[line];
-        w->held = UNKNOWN;
-        w->is_gate = line >= first_gate;
-        if (!w->is_gate)
-            continue;
-        const uint8_t *gate = gates->value + 5 * (line - first_gate);
-        w->kind = gate[0];
-        w->left = two_bytes(gate + 1);
-        w->right = two_bytes(gate + 3);
-        sound = sound && w->kind <= 1 && w->left < line && w->right < line;
-    }
-    for (unsigned k = 0; k < 2 * netlist->outputs; k++) {
-        unsigned line = two_bytes(outputs->value + 2 * k);
-        netlist->pair[k / 2][k % 2] = line;
-        sound = sound && line < netlist->lines;
-    }
+    bool sound = read_gates(netlist, gates->value);
+    for (const struct field *field = outputs; field != NULL; field = field->next)
+        sound = read_pairs(netlist, field) && sound;
     return sound ? 0 : 12;
 }
 
@@ -636,7 +703,7 @@ static void print_row(FILE *out, unsigned number, const char *kind, unsigned a, 
 
 static void print_sheet(FILE *out, const struct netlist *netlist)
 {
-    for (unsigned row = 1; row <= netlist->gates + netlist->outputs; row++) {
+    for (unsigned row = 1; row <= netlist->gates + netlist->pairs; row++) {
         if (row % 50 == 1)
             fputs(" LINE KIN     A     B\n", out);
         if (row <= netlist->gates) {
@@ -644,8 +711,9 @@ static void print_sheet(FILE *out, const struct netlist *netlist)
             const struct wire *gate = &netlist->wire[line];
             print_row(out, line, gate->kind == 0 ? "AND" : "OR", gate->left, gate->right);
         } else {
-            unsigned output = row - netlist->gates - 1;
-            print_row(out, output, "OUT", netlist->pair[output][0], netlist->pair[output][1]);
+            unsigned place = row - netlist->gates - 1;
+            bool lamp = place == netlist->outputs;
+            print_row(out, lamp ? 0 : place, lamp ? "LMP" : "OUT", netlist->pair[place][0], netlist->pair[place][1]);
         }
     }
 }
@@ -800,7 +868,7 @@ pilgodur_checked ref_check(const uint8_t *table, size_t table_len)
     answer.refusal = read_table(&pool, table, table_len, &diagram);
     if (answer.refusal == 0) {
         struct board board;
-        make_board(&pool, &diagram, &board);
+        make_board(&pool, &diagram, false, &board);
         answer.contacts = diagram.contacts;
         answer.outputs = diagram.outputs;
         answer.gates = board.gates;
@@ -810,7 +878,7 @@ pilgodur_checked ref_check(const uint8_t *table, size_t table_len)
     return answer;
 }
 
-pilgodur_built ref_build(const uint8_t *table, size_t table_len, uint8_t *file, size_t file_len)
+static pilgodur_built build(const uint8_t *table, size_t table_len, bool lamp, uint8_t *file, size_t file_len)
 {
     struct pool pool = {NULL};
     struct diagram diagram = {0};
@@ -818,7 +886,7 @@ pilgodur_built ref_build(const uint8_t *table, size_t table_len, uint8_t *file, 
     answer.refusal = read_table(&pool, table, table_len, &diagram);
     if (answer.refusal == 0) {
         struct board board;
-        make_board(&pool, &diagram, &board);
+        make_board(&pool, &diagram, lamp, &board);
         size_t length = file_length(&board);
         if (file_len < length) {
             answer.refusal = 9;
@@ -829,6 +897,16 @@ pilgodur_built ref_build(const uint8_t *table, size_t table_len, uint8_t *file, 
     }
     give_back(&pool);
     return answer;
+}
+
+pilgodur_built ref_build(const uint8_t *table, size_t table_len, uint8_t *file, size_t file_len)
+{
+    return build(table, table_len, false, file, file_len);
+}
+
+pilgodur_built ref_build_with_lamp(const uint8_t *table, size_t table_len, uint8_t *file, size_t file_len)
+{
+    return build(table, table_len, true, file, file_len);
 }
 
 pilgodur_reading ref_read_off(const uint8_t *table, size_t table_len, uint32_t input)
@@ -869,10 +947,10 @@ uint32_t ref_run(const uint8_t *netlist, size_t netlist_len, const uint8_t *rail
     struct pool pool = {NULL};
     struct netlist board = {0};
     uint32_t refusal = run(&pool, netlist, netlist_len, rails, rails_len, holds, holds_len, &board);
-    if (refusal == 0 && (lines_len < board.lines || pairs_len < 2 * (size_t)board.outputs))
+    if (refusal == 0 && (lines_len < board.lines || pairs_len < 2 * (size_t)board.pairs))
         refusal = 9;
     if (refusal == 0) {
-        for (unsigned k = 0; k < 2 * board.outputs; k++)
+        for (unsigned k = 0; k < 2 * board.pairs; k++)
             pairs[k] = (uint8_t)value_of(board.wire, board.pair[k / 2][k % 2]);
         write_lines(&board, lines);
     }
@@ -886,7 +964,7 @@ static pilgodur_probed probe(struct pool *pool, const struct diagram *diagram, c
 {
     pilgodur_probed answer = {0};
     struct board board;
-    make_board(pool, diagram, &board);
+    make_board(pool, diagram, false, &board);
     size_t length = file_length(&board);
     uint8_t *file = take(pool, length);
     write_file(&board, file);

@@ -1,4 +1,4 @@
-/* The independent implementation of the seven services, written from the rules alone. Same arguments and answers as pilgodur.h. */
+/* The independent implementation of the eight services, written from the rules alone. Same arguments and answers as pilgodur.h. */
 #ifndef REFERENCE_H
 #define REFERENCE_H
 
@@ -6,6 +6,7 @@
 
 pilgodur_checked ref_check(const uint8_t *table, size_t table_len);
 pilgodur_built ref_build(const uint8_t *table, size_t table_len, uint8_t *file, size_t file_len);
+pilgodur_built ref_build_with_lamp(const uint8_t *table, size_t table_len, uint8_t *file, size_t file_len);
 pilgodur_reading ref_read_off(const uint8_t *table, size_t table_len, uint32_t input);
 uint32_t ref_run(const uint8_t *netlist, size_t netlist_len, const uint8_t *rails, size_t rails_len,
                  const uint8_t *holds, size_t holds_len, uint8_t *lines, size_t lines_len,

@@ -40,7 +40,7 @@ same() {
     [ "$2" = "$3" ] || complain "$1: $2, not $3"
 }
 
-# rows NETLIST: a row for each gate and output, from the netlist's bytes.
+# rows NETLIST: a row for each gate, each output and the lamp, from the netlist's bytes.
 rows() {
     od -An -v -tu1 "$1" | awk '
         function two(at) { return 256 * byte[at] + byte[at + 1] }
@@ -49,23 +49,28 @@ rows() {
             gates = two(5) / 5
             for (g = 0; g < gates; g++)
                 printf "%5d %-3s %5d %5d\n", 2 + 2 * byte[3] + g, byte[7 + 5 * g] == 0 ? "AND" : "OR", two(8 + 5 * g), two(10 + 5 * g)
-            for (at = 10 + 5 * gates; at < count; at += 4)
+            outputs = two(8 + 5 * gates) / 4
+            for (at = 10 + 5 * gates; j < outputs; at += 4)
                 printf "%5d %-3s %5d %5d\n", j++, "OUT", two(at), two(at + 2)
+            if (at < count)
+                printf "%5d %-3s %5d %5d\n", 0, "LMP", two(at + 3), two(at + 5)
         }'
 }
 
-# size CONTACTS GATES OUTPUTS HEADINGS: the sheet of a netlist of this size has every row, and the heading in these lines alone.
+# size CONTACTS GATES OUTPUTS HEADINGS [lamp]: the sheet of a netlist of this size, with a lamp or without, has every row, and the
+# heading in these lines alone.
 heading='^ LINE KIN     A     B$'
 size() {
-    name=$2+$3
+    lamp=${5-} name=$2+$3 count=$(($2 + $3))
+    [ -z "$lamp" ] || name=$name+1 count=$((count + 1))
     trials=$((trials + 1))
-    "$netlists" "$2" "$1" "$2" "$3" >"$name.netlist"
+    "$netlists" "$2" "$1" "$2" "$3" $lamp >"$name.netlist"
     rows "$name.netlist" >"$name.rows"
     timeout 60 "$program" <"$name.netlist" >"$name.sheet" 2>err
     same "$name: status" $? 0
     same "$name: standard error" "$(cat err)" ''
     same "$name: headings" "$(grep -n "$heading" "$name.sheet" | sed 's/:.*//' | tr '\n' ' ')" "$4 "
-    same "$name: rows" "$(wc -l <"$name.rows")" $(($2 + $3))
+    same "$name: rows" "$(wc -l <"$name.rows")" "$count"
     sed "/$heading/d" "$name.sheet" | cmp - "$name.rows" || complain "$name: rows"
 }
 
@@ -85,6 +90,28 @@ printf '\001\000\001\002\004\000\000\005\000\010\000\000\000\001\000\001\000\000
 printf ' LINE KIN     A     B\n    0 OUT     0     1\n    1 OUT     1     0\n' >spare.sheet
 expect 0 spare.sheet '' 'sheet <spare'
 
+# With lamps: of one output; of two constants, made of six gates that have constants as sources.
+printf '\001\000\001\001\004\000\000\005\000\004\000\002\000\003\006\000\004\000\002\000\003' >lamp
+printf ' LINE KIN     A     B\n    0 OUT     2     3\n    0 LMP     2     3\n' >lamp.sheet
+expect 0 lamp.sheet '' 'sheet <lamp'
+{
+    printf '\001\000\001\001\004\000\036\000\000\000\000\001\000\000\001\000\000\001\000\004\000\005\000\000\000\000\000'
+    printf '\000\000\001\000\001\001\000\007\000\010\005\000\010\000\000\000\001\000\001\000\000\006\000\004\000\006\000\011'
+} >lamp-of-constants
+cat >lamp-of-constants.sheet <<end
+ LINE KIN     A     B
+    4 AND     0     1
+    5 AND     1     0
+    6 OR      4     5
+    7 AND     0     0
+    8 AND     1     1
+    9 OR      7     8
+    0 OUT     0     1
+    1 OUT     1     0
+    0 LMP     6     9
+end
+expect 0 lamp-of-constants.sheet '' 'sheet <lamp-of-constants'
+
 # About the end of a page, with outputs on a page of their own; no gates; the largest, with lines of five digits.
 size 1 48 1 '1'
 size 12 41 8 '1'
@@ -98,11 +125,28 @@ size 5 100 1 '1 52 103'
 size 5 93 8 '1 52 103'
 size 1 0 1 '1'
 size 12 0 8 '1'
+# The same with lamps, which may have a page of their own; the largest that has just full pages.
+size 1 47 1 '1' lamp
+size 1 48 1 '1' lamp
+size 12 41 8 '1' lamp
+size 3 49 1 '1 52' lamp
+size 3 42 8 '1 52' lamp
+size 5 98 1 '1 52' lamp
+size 5 91 8 '1 52' lamp
+size 5 99 1 '1 52 103' lamp
+size 5 92 8 '1 52 103' lamp
+size 1 0 1 '1' lamp
+size 12 0 8 '1' lamp
+size 12 10591 8 "$(seq -s ' ' 1 51 10762)" lamp
+# The largest of a table without the lamp; as many gates as there may be without a lamp and with one.
 size 12 10560 8 "$(seq -s ' ' 1 51 10762)"
-same 'the bytes of the largest' "$(wc -c <10560+8.sheet)" 237160
-same 'the last gate of the largest' "$(grep -c '^10585 ' 10560+8.sheet)" 1
-largest=10560+8.netlist
-same 'the bytes of the largest netlist' "$(wc -c <$largest)" 52842
+same 'the bytes of the largest without lamp' "$(wc -c <10560+8.sheet)" 237160
+size 12 10602 8 "$(seq -s ' ' 1 51 10813)"
+size 12 10602 8 "$(seq -s ' ' 1 51 10813)" lamp
+same 'the bytes of the largest' "$(wc -c <10602+8+1.sheet)" 238128
+same 'the last gate of the largest' "$(grep -c '^10627 ' 10602+8+1.sheet)" 1
+largest=10602+8+1.netlist
+same 'the bytes of the largest netlist' "$(wc -c <$largest)" 53059
 
 # What is no netlist: nothing, a table, hex: text, a byte too few, a byte too many, no outputs, 13 contacts; however long it is.
 printf '\001\000\001\001\004\000\000' >no-outputs
@@ -116,22 +160,39 @@ expect 1 eleven '' 'sheet <no-outputs'
 expect 1 eleven '' 'sheet <13-contacts'
 expect 1 eleven '' "{ cat $largest; printf x; } | sheet"
 expect 1 eleven '' "cat $largest $largest | sheet"
+expect 1 eleven '' "{ cat 10602+8.netlist; printf x; } | sheet"
+for lamp in '' ' lamp'; do
+    "$netlists" 1 12 10603 8 $lamp >too-many
+    expect 1 eleven '' 'sheet <too-many'
+done
+# A lamp twice, of another length, with another tag, with bytes behind it, cut short, and before the outputs.
+lampless='\001\000\001\001\004\000\000\005\000\004\000\002\000\003'
+for spoilt in '\006\000\004\000\002\000\003\006\000\004\000\002\000\003' '\006\000\000' '\006\000\003\000\002\000' \
+    '\006\000\005\000\002\000\003\000' '\006\000\010\000\002\000\003\000\002\000\003' '\007\000\004\000\002\000\003' \
+    '\005\000\004\000\002\000\003' '\006\000\004\000\002\000\003\000' '\006\000\004\000\002\000\003\006\000\000' '\006\000\004\000\002'; do
+    printf "$lampless$spoilt" >spoilt
+    expect 1 eleven '' 'sheet <spoilt'
+done
+printf '\001\000\001\001\004\000\000\006\000\004\000\002\000\003\005\000\004\000\002\000\003' >spoilt
+expect 1 eleven '' 'sheet <spoilt'
 expect 1 eleven '' 'sheet </dev/zero'
 expect 1 eleven '' 'yes 2>/dev/null | sheet'
-# A kind 2, a source that is its gate's own line, an output line that is not there.
+# A kind 2, a source that is its gate's own line, an output line and lamp lines that are not there.
 printf '\001\000\001\001\004\000\005\002\000\002\000\003\005\000\004\000\004\000\003' >kind
 printf '\001\000\001\001\004\000\005\000\000\002\000\004\005\000\004\000\004\000\003' >source
 printf '\001\000\001\001\004\000\005\000\000\002\000\003\005\000\004\000\005\000\003' >output
-for netlist in kind source output; do
+printf "$lampless"'\006\000\004\000\004\000\003' >lamp-true
+printf "$lampless"'\006\000\004\000\002\000\004' >lamp-false
+for netlist in kind source output lamp-true lamp-false; do
     expect 1 twelve '' "sheet <$netlist"
 done
 
 # Input in small pieces.
 expect 0 "$expected" '' 'dd if=selector.netlist bs=1 2>/dev/null | sheet'
 expect 0 "$expected" '' '{ head -c 5 selector.netlist; sleep 0.1; tail -c +6 selector.netlist; } | sheet'
-expect 0 10560+8.sheet '' "cat $largest | sheet"
-expect 0 10560+8.sheet '' "failing_sheet few_bytes <$largest"
-expect 0 10560+8.sheet '' "failing_sheet interrupted <$largest"
+expect 0 10602+8+1.sheet '' "cat $largest | sheet"
+expect 0 10602+8+1.sheet '' "failing_sheet few_bytes <$largest"
+expect 0 10602+8+1.sheet '' "failing_sheet interrupted <$largest"
 expect 1 twelve '' 'failing_sheet few_bytes <kind'
 expect 1 twelve '' 'failing_sheet interrupted <kind'
 

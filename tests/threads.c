@@ -15,12 +15,13 @@
 enum { THREADS = 8, BOARDS = 24, BUFFER = PILGODUR_FILE_MAX + PILGODUR_LINES_MAX };
 enum { STACK = 512 * 1024 }; /* the header says 270 KB for probe */
 
-/* What all threads read: a table, rails, holds, an input and a drawing, some of them damaged. */
+/* What all threads read: a table, its netlist, rails, holds, an input and a drawing, some of them damaged. */
 struct board {
     uint8_t table[TABLE_MAX];
     size_t table_length;
     uint8_t netlist[PILGODUR_FILE_MAX];
     size_t netlist_length;
+    bool has_lamp; /* the netlist's */
     uint8_t rails[24];
     size_t rails_length;
     uint8_t hold[3];
@@ -33,12 +34,14 @@ struct board {
 struct answers {
     pilgodur_checked checked;
     pilgodur_built built;
+    pilgodur_built built_with_lamp;
     pilgodur_reading reading;
     uint32_t run;
     pilgodur_probed probed;
     pilgodur_built sheet;
     pilgodur_built drawn;
     uint8_t file[PILGODUR_FILE_MAX];
+    uint8_t file_with_lamp[PILGODUR_FILE_MAX];
     uint8_t lines[PILGODUR_LINES_MAX];
     uint8_t pairs[PILGODUR_PAIRS_MAX];
     uint8_t probe[BUFFER];
@@ -56,6 +59,7 @@ static void ask(const struct board *b, struct answers *a)
     memset(a, 0, sizeof *a);
     a->checked = pilgodur_check(b->table, b->table_length);
     a->built = pilgodur_build(b->table, b->table_length, a->file, sizeof a->file);
+    a->built_with_lamp = pilgodur_build_with_lamp(b->table, b->table_length, a->file_with_lamp, sizeof a->file_with_lamp);
     a->reading = pilgodur_read_off(b->table, b->table_length, b->input);
     a->run = pilgodur_run(b->netlist, b->netlist_length, b->rails, b->rails_length, b->hold, sizeof b->hold, a->lines,
                           sizeof a->lines, a->pairs, sizeof a->pairs);
@@ -73,7 +77,9 @@ static void draw_board(struct dice *dice, struct board *b)
     else
         random_diagram(dice, 1 + roll(dice, 12), 1 + roll(dice, 8), &diagram);
     b->table_length = table_of(&diagram, b->table);
-    b->netlist_length = pilgodur_build(b->table, b->table_length, b->netlist, sizeof b->netlist).length;
+    b->has_lamp = chance(dice, 50);
+    b->netlist_length = (b->has_lamp ? pilgodur_build_with_lamp : pilgodur_build)(b->table, b->table_length, b->netlist,
+                                                                                  sizeof b->netlist).length;
     b->rails_length = 2 * (size_t)diagram.contacts;
     for (size_t i = 0; i < b->rails_length; i++)
         b->rails[i] = (uint8_t)roll(dice, 2);
@@ -144,21 +150,23 @@ int main(int argc, char **argv)
 {
     static const char *const verdict[] = {"DIFFERENT ANSWERS", "the same answers"};
     struct dice dice = {1};
-    unsigned accepted = 0, unread = 0, drawn = 0;
+    unsigned accepted = 0, lamps = 0, unread = 0, drawn = 0;
     if (argc > 1)
         rounds = (unsigned)strtoul(argv[1], NULL, 10);
     for (unsigned i = 0; i < BOARDS; i++) {
         draw_board(&dice, &boards[i]);
         ask(&boards[i], &expected[i]);
         accepted += expected[i].checked.refusal == 0;
+        lamps += boards[i].has_lamp;
         unread += expected[i].probed.refusal == PILGODUR_REFUSAL_UNREAD;
         drawn += expected[i].drawn.refusal == 0;
     }
     bool threads_agree = run_threads();
     bool overlaps_agree = overlaps();
-    printf("threads: %d threads, %d boards (%u accepted, %u with a spare rail held, %u with a good drawing), %u rounds: %s; "
-           "overlapping strings: %s\n",
-           THREADS, BOARDS, accepted, unread, drawn, rounds, verdict[threads_agree], verdict[overlaps_agree]);
-    bool all_kinds = accepted > BOARDS / 2 && accepted < BOARDS && unread > 0 && drawn > BOARDS / 2 && drawn < BOARDS;
+    printf("threads: %d threads, %d boards (%u accepted, %u netlists with a lamp, %u with a spare rail held, %u with a good drawing), "
+           "%u rounds: %s; overlapping strings: %s\n",
+           THREADS, BOARDS, accepted, lamps, unread, drawn, rounds, verdict[threads_agree], verdict[overlaps_agree]);
+    bool all_kinds = accepted > BOARDS / 2 && accepted < BOARDS && lamps > 0 && lamps < BOARDS && unread > 0 &&
+                     drawn > BOARDS / 2 && drawn < BOARDS;
     return threads_agree && overlaps_agree && all_kinds ? 0 : 1;
 }

@@ -9,6 +9,8 @@
 //     w NAME: COUNT / ROOM                                      the same, of a drawing of so many nodes
 //     b NAME: TABLE                                             the netlist that is built
 //     k NAME: TABLE / ROOM                                      what build keeps of a buffer of so many bytes
+//     l NAME: TABLE                                             the netlist that is built with a lamp
+//     m NAME: TABLE / ROOM                                      what build with lamp keeps of a buffer of so many bytes
 //     r NAME: NETLIST / ROOM / FROM / HOLDS / RAILS / PAIRS     a run with two buffers, the first shown from a place on
 //     g NAME: COUNT / ROOM / FROM / HOLDS / RAILS / PAIRS       the same, of a row of so many gates
 //     p NAME: TABLE / ROOM / FROM / HOLD                        a probe with a buffer that is shown from a place on
@@ -69,6 +71,8 @@ fn show(kind: u8, case: &[u8]) {
         b'w' => drawings::show_row(case),
         b'b' => netlists::show(file),
         b'k' => netlists::show_kept(file, case),
+        b'l' => netlists::show_with_lamp(file),
+        b'm' => netlists::show_kept_with_lamp(file, case),
         b'r' => runs::show(file, case),
         b'g' => runs::show_row(case),
         b'p' => probes::show(file, case),

@@ -5,9 +5,9 @@ use text::print;
 use text::spelling;
 
 pub fn show(table: &[u8], case: &[u8]) {
-    let len = spelling::number(case, 1, 10568);
-    let from = spelling::number(case, 2, 10568);
-    let mut lent = [b'.'; 10568];
+    let len = spelling::number(case, 1, 10610);
+    let from = spelling::number(case, 2, 10610);
+    let mut lent = [b'.'; 10610];
     let probed = probe::probe(table, reader::nth(case, 3), &mut lent[0..len]);
     print::form(
         b": %, input %, output %",

@@ -105,7 +105,7 @@ module _ {gates : List ℕ} {first g : ℕ} {depths : List ℕ} {deepest : ℕ} 
       }
 
 pub depth-from : (gates : List ℕ) (n count : ℕ) →
-    largest (depthsFrom gates (2 + 2 * n) count) ≡ depthOf (netWith n (listed (gateAt gates) count 0) [])
+    largest (depthsFrom gates (2 + 2 * n) count) ≡ depthOf (netWith n (listed (gateAt gates) count 0) [] [])
 unfolding depthOf depthsOf depthsFrom
 depth-from gates n count = refl
 

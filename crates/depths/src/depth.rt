@@ -38,7 +38,7 @@ fn scan(gates: &[u8], count: usize, first: usize, depths: &mut [u16]) -> u16
 pub fn depth_of(gates: &[u8], count: usize, n: usize) -> usize
     requires { ⌜ (n ≤ 12) × (count ≤ 10560) × (5 * count ≤ length (now gates)) ⌝ }
     requires { ⌜ SourcesBelow (now gates) (2 + 2 * n) count ⌝ }
-    ensures { λ r. ⌜ r ≡ depthOf (netWith n (listed (gateAt (now (gates .entry))) count 0) []) ⌝ }
+    ensures { λ r. ⌜ r ≡ depthOf (netWith n (listed (gateAt (now (gates .entry))) count 0) [] []) ⌝ }
 {
     if count <= 1974 {
         let mut few = [0u16; 2_000];

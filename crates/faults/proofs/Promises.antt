@@ -5,7 +5,7 @@ use Rattle.table.proofs.Accepted.{accepted}
 use Rattle.netlist.specs.Netlist.{holdsOf}
 use Rattle.simulation.specs.Service.{runOf}
 use Rattle.netlist.proofs.Files.{reads-back}
-use Rattle.rules.specs.Board.{boardOf, tableBoard}
+use Rattle.rules.specs.Board.{boardOf}
 use Rattle.table.specs.Table.{diagramIn}
 use Rattle.rules.proofs.Values.{no-wrong-code}
 use Rattle.rules.proofs.Wired.{board-wired}
@@ -27,4 +27,4 @@ no-unseen-line table all y b low read bound = seen table all y b low read bound
 
 pub run-writes : RunWrites
 unfolding runOf
-run-writes table rails holds lines pairs e = rw (e, reads-back (tableBoard table)) (refl, refl)
+run-writes net rails holds lines pairs e = rw (e, reads-back net) (refl, refl)

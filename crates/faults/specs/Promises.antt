@@ -50,11 +50,10 @@ NoUnseenLine =
     (a : ℕ) × (a < 2 ^ diagramIn table .contacts) × (j : ℕ) × (j < diagramIn table .outputs)
     × Shows (tableBoard table) (stuckAt (tableBoard table) (record { line = line; value = b }) a) j b b
 
--- Such values, and each output's pair of them, are what a run of that file writes, if it is not refused.
+-- Such values, and each output's pair of them and the lamp's, are what a run of a netlist's file writes, if it is not refused.
 abbrev pub RunWrites : Type 0
 RunWrites =
-    (table rails holds lines pairs : List ℕ) →
-    let net = tableBoard table in
+    (net : Netlist) (rails holds lines pairs : List ℕ) →
     let values = valuesOf net rails (holdsOf holds) in
     runRefusal (fileOf net) rails holds (length lines) (length pairs) ≡ 0 →
     (runOf (fileOf net) rails holds lines pairs .lines ≡ over values lines)

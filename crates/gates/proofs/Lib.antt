@@ -3,3 +3,4 @@ pub mod Writing
 pub mod Rooms
 pub mod WrittenLines
 pub mod WrittenTrees
+pub mod WrittenLamps

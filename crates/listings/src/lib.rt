@@ -1,2 +1,2 @@
-// What a case shows of what check says and of the netlist that build writes.
+// What a case shows of what check says and of the netlist that a build writes.
 pub mod netlists;

@@ -1,5 +1,6 @@
-// What check says of a table, and the file that build writes: its length, each gate by its line and sources, and each output's
-// true and false line.
+// What check says of a table, and the file that a build writes: its length, each gate by its line and sources, and each output's
+// true and false line, and the lamp's.
+use files::Written;
 use synthesis::Checked;
 use text::print;
 use text::print::Lent;
@@ -10,15 +11,26 @@ ghost use lib.ListN.{length};
 // Points, which stand where nothing is written, are no whole field of a buffer this short.
 pub fn show(table: &[u8]) {
     show_checked(synthesis::check(table));
+    print::text(b"built");
     let mut file = [b'.'; 8192];
-    let built = synthesis::build(table, &mut file);
+    show_built(synthesis::build(table, &mut file));
+    show_file(&file);
+}
+
+// The same of the file that build with lamp writes, without what check says.
+pub fn show_with_lamp(table: &[u8]) {
+    let mut file = [b'.'; 8192];
+    show_built(synthesis::build_with_lamp(table, &mut file));
+    show_file(&file);
+}
+
+fn show_built(built: Written) {
     print::form(
-        b"built: %, bytes %",
+        b": %, bytes %",
         built.refusal as usize,
         built.length as usize,
         0,
     );
-    show_file(&file);
 }
 
 fn show_checked(checked: Checked) {
@@ -36,10 +48,11 @@ fn show_checked(checked: Checked) {
     );
 }
 
-// A netlist file's gates and outputs.
+// A netlist file's gates, its outputs and its lamp.
 fn show_file(file: &[u8]) {
     show_gates(reader::nth(file, 1), fields::byte(reader::nth(file, 0), 0));
-    show_outputs(reader::nth(file, 2));
+    show_pairs(b"\noutput", reader::nth(file, 2));
+    show_pairs(b"\nlamp", reader::nth(file, 3));
 }
 
 // The gates from the first line past the rails on, eight to a row.
@@ -71,31 +84,35 @@ fn show_gate(gates: &[u8], at: usize, line: usize)
     }
 }
 
-// Each output's true line and false line.
-fn show_outputs(outputs: &[u8]) {
-    for j in 0..outputs.len() / 4 {
-        let high = netlist::number_at(outputs, 4 * j) as usize;
-        let low = netlist::number_at(outputs, 4 * j + 2) as usize;
-        print::form(b"\noutput %: % %", j, high, low);
+// Each pair's true line and false line, behind what it is called and its number.
+fn show_pairs(name: &[u8], pairs: &[u8]) {
+    for j in 0..pairs.len() / 4 {
+        let high = netlist::number_at(pairs, 4 * j) as usize;
+        let low = netlist::number_at(pairs, 4 * j + 2) as usize;
+        print::text(name);
+        print::form(b" %: % %", j, high, low);
     }
 }
 
 // What build says, and how many bytes of the lent buffer keep their values.
 pub fn show_kept(table: &[u8], case: &[u8]) {
-    let len = spelling::number(case, 1, 10568);
-    let mut file = [b'.'; 10568];
-    let built = synthesis::build(table, &mut file[0..len]);
-    print::form(
-        b": %, bytes %, kept %",
-        built.refusal as usize,
-        built.length as usize,
-        kept(&file, len),
-    );
+    let len = spelling::number(case, 1, 10610);
+    let mut file = [b'.'; 10610];
+    show_built(synthesis::build(table, &mut file[0..len]));
+    print::form(b", kept %", kept(&file, len), 0, 0);
+}
+
+// The same of build with lamp.
+pub fn show_kept_with_lamp(table: &[u8], case: &[u8]) {
+    let len = spelling::number(case, 1, 10610);
+    let mut file = [b'.'; 10610];
+    show_built(synthesis::build_with_lamp(table, &mut file[0..len]));
+    print::form(b", kept %", kept(&file, len), 0, 0);
 }
 
 // How many of the first bytes have the value that they were lent with.
 fn kept(file: &Lent, len: usize) -> usize
-    requires { ⌜ len ≤ 10568 ⌝ }
+    requires { ⌜ len ≤ 10610 ⌝ }
 {
     let all = &file[..];
     print::kept(&all[0..len])

@@ -2,28 +2,31 @@
 use borrow.Author.Tests.{le-leb}
 use native.Mathlib.Nat.{div-add-mod'}
 use native.Mathlib.Omega.{arith}
-use Prim.Native.Nat.{ℕ, _+_, _*_, _/_, _<_}
+use Prim.Native.Nat.{ℕ, _+_, _*_, _/_, _≤_, _<_}
 use mathlib.Core.Path.{_≡_, refl, sym, ap, ap₂, _∙_}
 use mathlib.Core.Bool.{true, _&&_}
 use mathlib.Core.List.{List, [], _∷_, flatMap}
-use lib.ListN.{length, getD, length-append, getD-replicate}
+use lib.ListN.{length, getD, getD-replicate}
 use lib.Seq.{ext-getD}
 use Rattle.fields.specs.declared.Framing.the-variants.{Whole}
-use Rattle.fields.specs.Fields.{numberOf, Item, Fields, fieldsOf, encoded}
+use Rattle.fields.specs.Fields.{numberOf, Item, Fields, fieldsOf, valueIn}
 use Rattle.fields.specs.Refusals.{firstNo}
 use Rattle.fields.proofs.Bounded.{all-of}
 use Rattle.fields.proofs.Encoding.{of-encoded}
 use Rattle.fields.proofs.Parts.{length-parts, part-at}
 use Rattle.files.specs.Header.{contactsIn}
+use Rattle.files.proofs.Heads.{field}
 use Rattle.files.proofs.WholeParts.{whole-parts}
 use Rattle.netlist.specs.declared.Gate.{Gate}
 use Rattle.netlist.specs.declared.Pair.{Pair}
 use Rattle.netlist.specs.declared.form.Form.the-variants.{Formed}
-use Rattle.netlist.specs.Netlist.{Netlist, gateLine, gateAt, pairAt, gatesOf, pairsOf, gateBytes, pairBytes, netWith, fileWith, fileOf}
-use Rattle.netlist.specs.Questions.{isGate, isPair, formOf, isSound, netlistOf, netlistRefusal}
+use Rattle.netlist.specs.Netlist.{Netlist, gateLine, lineCount, gateAt, pairAt, gatesOf, pairsOf, gateBytes, pairBytes, netWith, lampField, fileWith, fileOf}
+use Rattle.netlist.specs.Questions.{endsInLamp, isGate, isPair, arePairs, formOf, isSound, netlistOf, netlistRefusal}
+use Rattle.netlist.specs.Inner.Lengths.{lampLength}
 use Rattle.netlist.proofs.Forms.{formed}
 use Rattle.netlist.proofs.Lists.{length-gates, getD-gates, length-pairs, getD-pairs}
-use Rattle.netlist.proofs.Tests.{on-gate, in-pair, Bounds, Wired, PairsWired}
+use Rattle.netlist.proofs.Tests.{on-gate, in-pair, Bounds, Wired, PairsIn, PairsWired, LampWired}
+use Rattle.netlist.proofs.Written.{length-file}
 
 -- The gates' bytes.
 pub length-gate-bytes : (gs : List Gate) → length (flatMap gateBytes gs) ≡ 5 * length gs
@@ -82,26 +85,36 @@ pairs-back ps =
     let l : length (pairsOf v) ≡ length ps = omega (arith, length-pairs v) in
     ext-getD no-pair (pairsOf v) ps l (λ j h. getD-pairs v j no-pair (omega arith) ∙ pair-back ps j)
 
+-- The lamp's field.
+lamp-value : (v : List ℕ) → valueIn (lampField v) 0 ≡ v
+lamp-value [] = refl
+lamp-value (b ∷ v) = refl
+
 module _ (net : Netlist) where
   abbrev pub itemsOf : List Item
   itemsOf =
       record { tag = 1; value = net .contacts ∷ [] }
       ∷ record { tag = 4; value = flatMap gateBytes (net .gates) }
       ∷ record { tag = 5; value = flatMap pairBytes (net .pairs) }
-      ∷ []
+      ∷ lampField (flatMap pairBytes (net .lamp))
 
   pub file-fields : fieldsOf (fileOf net) ≡ record { items = itemsOf; framing = Whole }
   unfolding fileOf fileWith
   file-fields = of-encoded itemsOf
 
-  pub file-length : length (fileOf net) ≡ 10 + 5 * length (net .gates) + 4 * length (net .pairs)
-  unfolding fileOf fileWith encoded
+  pub file-length : length (fileOf net) ≡ 10 + 5 * length (net .gates) + 4 * length (net .pairs) + lampLength (4 * length (net .lamp))
+  unfolding fileOf
   file-length =
-      simp length-append (omega (arith, length-gate-bytes (net .gates), length-pair-bytes (net .pairs)))
+      length-file (net .contacts) (flatMap gateBytes (net .gates)) (flatMap pairBytes (net .pairs)) (flatMap pairBytes (net .lamp))
+      ∙ rw (length-gate-bytes (net .gates), length-pair-bytes (net .pairs), length-pair-bytes (net .lamp))
 
   items-back : netlistOf itemsOf ≡ net
   unfolding netlistOf
-  items-back = ap₂ (netWith (net .contacts)) (gates-back (net .gates)) (pairs-back (net .pairs))
+  items-back =
+      let gates = gates-back (net .gates) in
+      let pairs = pairs-back (net .pairs) in
+      let lamp = ap pairsOf (lamp-value (flatMap pairBytes (net .lamp))) ∙ pairs-back (net .lamp) in
+      λ i. netWith (net .contacts) (gates i) (pairs i) (lamp i)
 
   pub reads-back : netlistOf (fieldsOf (fileOf net) .items) ≡ net
   reads-back = ap (λ (fs : Fields). netlistOf (fs .items)) file-fields ∙ items-back
@@ -109,6 +122,13 @@ module _ (net : Netlist) where
 -- Different netlists have different files.
 pub file-determines : (a b : Netlist) → fileOf a ≡ fileOf b → a ≡ b
 file-determines a b e = sym (reads-back a) ∙ ap (λ (f : List ℕ). netlistOf (fieldsOf f .items)) e ∙ reads-back b
+
+-- At most one lamp ends a file as it should.
+ends-formed : (i j k : Item) (ps : List Pair) → length ps ≤ 1 → endsInLamp (i ∷ j ∷ k ∷ lampField (flatMap pairBytes ps)) ≡ true
+unfolding flatMap
+ends-formed i j k [] h = refl
+ends-formed i j k (p ∷ []) h = refl
+ends-formed i j k (p ∷ q ∷ ps) h = absurd (omega arith)
 
 module _ (net : Netlist) (b : Bounds net) where
   items-formed : Formed (net .contacts) ≡ formOf (record { items = itemsOf net; framing = Whole })
@@ -118,30 +138,36 @@ module _ (net : Netlist) (b : Bounds net) where
       let p = length-pair-bytes (net .pairs) in
       formed (record { items = itemsOf net; framing = Whole }) refl
       (simp (le-leb _ _ (b .least), le-leb _ _ (b .most)))
-      (whole-parts 4 5 0 10560 (flatMap gateBytes (net .gates)) (omega arith) (omega arith) (omega arith))
+      (whole-parts 4 5 0 10602 (flatMap gateBytes (net .gates)) (omega arith) (omega arith) (omega arith))
       (whole-parts 5 4 1 8 (flatMap pairBytes (net .pairs)) (omega arith) (omega arith) (omega arith))
-      refl
+      (ends-formed (field 1 (net .contacts ∷ [])) (field 4 (flatMap gateBytes (net .gates))) (field 5 (flatMap pairBytes (net .pairs))) (net .lamp) (b .lamp))
 
   pub file-formed : formOf (fieldsOf (fileOf net)) ≡ Formed (net .contacts)
   file-formed = ap formOf (file-fields net) ∙ sym items-formed
 
-  module _ (wired : Wired net) (shown : PairsWired net) where
-    bytes-sound : isSound (net .contacts) (flatMap gateBytes (net .gates)) (flatMap pairBytes (net .pairs)) ≡ true
+  pairs-sound : (lines : ℕ) (ps : List Pair) → lines ≡ lineCount net → PairsIn (lineCount net) ps →
+      arePairs lines (flatMap pairBytes ps) ≡ true
+  pairs-sound lines ps e shown =
+      let u = flatMap pairBytes ps in
+      let p = length-pair-bytes ps in
+      all-of (λ j. isPair lines (pairAt u j)) (length u / 4)
+      (λ j h. ap₂ isPair e (pair-back ps j) ∙ in-pair _ _ (shown j no-pair (omega arith)))
+
+  module _ (wired : Wired net) (shown : PairsWired net) (lit : LampWired net) where
+    bytes-sound : isSound (net .contacts) (flatMap gateBytes (net .gates)) (flatMap pairBytes (net .pairs)) (flatMap pairBytes (net .lamp)) ≡ true
     unfolding isSound
     bytes-sound =
         let v = flatMap gateBytes (net .gates) in
-        let u = flatMap pairBytes (net .pairs) in
         let g = length-gate-bytes (net .gates) in
-        let p = length-pair-bytes (net .pairs) in
-        let k : length v / 5 ≡ length (net .gates) = omega arith in
+        let k : gateLine (net .contacts) + length v / 5 ≡ lineCount net = omega arith in
         ap₂ _&&_
+        (ap₂ _&&_
         (all-of (λ i. isGate (gateLine (net .contacts) + i) (gateAt v i)) (length v / 5)
         (λ i h. ap (isGate (gateLine (net .contacts) + i)) (gate-back (net .gates) i)
         ∙ on-gate _ _ (wired i no-gate (omega arith))))
-        (all-of (λ j. isPair (gateLine (net .contacts) + length v / 5) (pairAt u j)) (length u / 4)
-        (λ j h. ap₂ isPair (ap (λ (l : ℕ). gateLine (net .contacts) + l) k) (pair-back (net .pairs) j)
-        ∙ in-pair _ _ (shown j no-pair (omega arith))))
+        (pairs-sound _ (net .pairs) k shown))
+        (pairs-sound _ (net .lamp) k lit)
 
     pub file-accepted : netlistRefusal (fileOf net) ≡ 0
     unfolding netlistRefusal firstNo
-    file-accepted = rw (file-formed, file-fields net, bytes-sound)
+    file-accepted = rw (file-formed, file-fields net, lamp-value (flatMap pairBytes (net .lamp)), bytes-sound)

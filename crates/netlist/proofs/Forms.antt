@@ -3,15 +3,13 @@ use Prim.Native.Nat.{ℕ}
 use mathlib.Core.Path.{_≡_, sym, ap, _∙_}
 use mathlib.Core.Bool.{true, false, and-false}
 use mathlib.Core.List.{List}
-use lib.Dec.{leb}
-use lib.ListN.{length}
 use Rattle.fields.specs.declared.Framing.the-variants.{Whole, Broken}
 use Rattle.fields.specs.Fields.{Item, Fields, itemIn}
 use Rattle.files.specs.declared.header.Contacts.the-variants.{Counted, Uncounted}
 use Rattle.files.specs.Header.{contactsOf, contactsIn, hasParts}
 use Rattle.files.proofs.Heads.{counted}
 use Rattle.netlist.specs.declared.form.Form.the-variants.{Formed, Unformed}
-use Rattle.netlist.specs.Questions.{formOf}
+use Rattle.netlist.specs.Questions.{endsInLamp, formOf}
 
 module _ (fs : Fields) where
   pub broken : fs .framing ≡ Broken → Unformed ≡ formOf fs
@@ -22,7 +20,7 @@ module _ (fs : Fields) where
   unfolding formOf
   uncounted e = simp (e, and-false)
 
-  pub gates-misparted : hasParts 4 5 0 10560 (itemIn (fs .items) 1) ≡ false → Unformed ≡ formOf fs
+  pub gates-misparted : hasParts 4 5 0 10602 (itemIn (fs .items) 1) ≡ false → Unformed ≡ formOf fs
   unfolding formOf
   gates-misparted e = simp (e, and-false)
 
@@ -30,13 +28,13 @@ module _ (fs : Fields) where
   unfolding formOf
   outputs-misparted e = simp (e, and-false)
 
-  pub too-many : leb (length (fs .items)) 3 ≡ false → Unformed ≡ formOf fs
+  pub misended : endsInLamp (fs .items) ≡ false → Unformed ≡ formOf fs
   unfolding formOf
-  too-many e = simp (e, and-false)
+  misended e = simp (e, and-false)
 
   pub formed : {n : ℕ} → fs .framing ≡ Whole → contactsIn (fs .items) ≡ Counted n →
-      hasParts 4 5 0 10560 (itemIn (fs .items) 1) ≡ true → hasParts 5 4 1 8 (itemIn (fs .items) 2) ≡ true →
-      leb (length (fs .items)) 3 ≡ true → Formed n ≡ formOf fs
+      hasParts 4 5 0 10602 (itemIn (fs .items) 1) ≡ true → hasParts 5 4 1 8 (itemIn (fs .items) 2) ≡ true →
+      endsInLamp (fs .items) ≡ true → Formed n ≡ formOf fs
   unfolding formOf
   formed {n} w e p q m =
       ap Formed (sym (ap (λ (is : List Item). contactsOf is) (counted (fs .items) n e .split))) ∙ simp (w, e, p, q, m)

@@ -2,7 +2,7 @@
 use native.Mathlib.Omega.{arith}
 use Prim.Native.Nat.{ℕ, suc, _+_, _/_, _≤_}
 use mathlib.Core.Path.{_≡_, sym, _∙_}
-use mathlib.Core.Bool.{true}
+use mathlib.Core.Bool.{Bool, true, _&&_}
 use mathlib.Core.List.{List}
 use lib.ListN.{length}
 use Rattle.fields.specs.Fields.{Item, fieldsOf, valueOf, valueIn}
@@ -13,18 +13,19 @@ use Rattle.files.specs.Header.{contactsOf}
 use Rattle.netlist.specs.declared.form.Form.the-variants.{Formed, Unformed}
 use Rattle.netlist.specs.declared.wiring.Wiring.the-variants.{Sound, Unsound}
 use Rattle.netlist.specs.declared.reading.Parts.{Parts}
-use Rattle.netlist.specs.Netlist.{gateLine, netOf}
+use Rattle.netlist.specs.Netlist.{gateLine, gatesOf, pairsOf, netWith}
 use Rattle.netlist.specs.Questions.{formOf, areGates, arePairs, isSound, wiringOf, wiringNumber, netlistOf, netlistRefusal}
 use Rattle.netlist.specs.Inner.Read.{Read}
 use Rattle.netlist.proofs.Accepted.{well-formed, accepted}
 use Rattle.netlist.proofs.Tests.{Bounds}
 
 -- The parts of a netlist file that is not refused.
-pub record Opened (file : List ℕ) (n : ℕ) (gates outputs : List ℕ) : Type 0 where
+pub record Opened (file : List ℕ) (n : ℕ) (gates outputs lamp : List ℕ) : Type 0 where
   pub accepted : netlistRefusal file ≡ 0
   pub contacts : n ≡ contactsOf (fieldsOf file .items)
   pub gates-are : gates ≡ valueIn (fieldsOf file .items) 1
   pub outputs-are : outputs ≡ valueIn (fieldsOf file .items) 2
+  pub lamp-is : lamp ≡ valueIn (fieldsOf file .items) 3
 
 module _ (file : List ℕ) where
   abbrev is : List Item
@@ -37,6 +38,7 @@ module _ (file : List ℕ) where
         contacts = λ z. absurd (omega arith);
         gates = λ z. absurd (omega arith);
         outputs = λ z. absurd (omega arith);
+        lamp = λ z. absurd (omega arith);
       }
 
   pub unformed : {p : Parts} → formOf (fieldsOf file) ≡ Unformed → p .refusal ≡ 11 → Read file p
@@ -44,49 +46,67 @@ module _ (file : List ℕ) where
   unformed f r = refused 10 (rw f) r
 
   -- Once question 11 has its yes.
-  module _ {n : ℕ} {gates outputs : List ℕ} (f : formOf (fieldsOf file) ≡ Formed n) (g : gates ≡ valueIn is 1) (o : outputs ≡ valueIn is 2) where
-    asked : netlistRefusal file ≡ wiringNumber (wiringOf n gates outputs)
+  module _ {n : ℕ} {gates outputs lamp : List ℕ} (f : formOf (fieldsOf file) ≡ Formed n) (g : gates ≡ valueIn is 1)
+      (o : outputs ≡ valueIn is 2) (l : lamp ≡ valueIn is 3) where
+    asked : netlistRefusal file ≡ wiringNumber (wiringOf n gates outputs lamp)
     unfolding netlistRefusal firstNo
-    asked = rw (f, g, o, well-formed (fieldsOf file) n f .contacts) (first-only _)
+    asked = rw (f, g, o, l, well-formed (fieldsOf file) n f .contacts) (first-only _)
 
-    pub unsound : {p : Parts} → wiringOf n gates outputs ≡ Unsound → p .refusal ≡ 12 → Read file p
+    pub unsound : {p : Parts} → wiringOf n gates outputs lamp ≡ Unsound → p .refusal ≡ 12 → Read file p
     unsound w r = refused 11 (asked ∙ rw w) r
 
-    pub sound : {p : Parts} → wiringOf n gates outputs ≡ Sound → p .refusal ≡ 0 → p .contacts ≡ n → valueOf file (p .gates) ≡ gates →
-        valueOf file (p .outputs) ≡ outputs → Read file p
-    sound w r c h k =
+    pub sound : {p : Parts} → wiringOf n gates outputs lamp ≡ Sound → p .refusal ≡ 0 → p .contacts ≡ n → valueOf file (p .gates) ≡ gates →
+        valueOf file (p .outputs) ≡ outputs → valueOf file (p .lamp) ≡ lamp → Read file p
+    sound w r c h k m =
         record {
           refusal = r ∙ sym (asked ∙ rw w);
           contacts = λ _. c ∙ well-formed (fieldsOf file) n f .contacts;
           gates = λ _. h ∙ g;
           outputs = λ _. k ∙ o;
+          lamp = λ _. m ∙ l;
         }
 
-  pub opened : {p : Parts} {gates outputs : List ℕ} → Read file p → p .refusal ≡ 0 → gates ≡ valueOf file (p .gates) →
-      outputs ≡ valueOf file (p .outputs) → Opened file (p .contacts) gates outputs
-  opened r z g o =
-      record { accepted = sym (r .refusal) ∙ z; contacts = r .contacts z; gates-are = g ∙ r .gates z; outputs-are = o ∙ r .outputs z }
+  pub opened : {p : Parts} {gates outputs lamp : List ℕ} → Read file p → p .refusal ≡ 0 → gates ≡ valueOf file (p .gates) →
+      outputs ≡ valueOf file (p .outputs) → lamp ≡ valueOf file (p .lamp) → Opened file (p .contacts) gates outputs lamp
+  opened r z g o l =
+      record {
+        accepted = sym (r .refusal) ∙ z;
+        contacts = r .contacts z;
+        gates-are = g ∙ r .gates z;
+        outputs-are = o ∙ r .outputs z;
+        lamp-is = l ∙ r .lamp z;
+      }
 
-module _ {file : List ℕ} {n : ℕ} {gates outputs : List ℕ} (o : Opened file n gates outputs) where
-  pub net-is : netlistOf (fieldsOf file .items) ≡ netOf n gates outputs
+module _ {file : List ℕ} {n : ℕ} {gates outputs lamp : List ℕ} (o : Opened file n gates outputs lamp) where
+  pub net-is : netlistOf (fieldsOf file .items) ≡ netWith n (gatesOf gates) (pairsOf outputs) (pairsOf lamp)
   unfolding netlistOf
-  net-is = rw (o .contacts, o .gates-are, o .outputs-are)
+  net-is = rw (o .contacts, o .gates-are, o .outputs-are, o .lamp-is)
 
-  parts-sound : isSound n gates outputs ≡ true
+  parts-sound : isSound n gates outputs lamp ≡ true
   unfolding netlistOf
-  parts-sound = rw (o .contacts, o .gates-are, o .outputs-are) (accepted file (o .accepted) .sound)
+  parts-sound = rw (o .contacts, o .gates-are, o .outputs-are, o .lamp-is) (accepted file (o .accepted) .sound)
 
   pub few-contacts : n ≤ 12
   unfolding netlistOf
   few-contacts = rw (o .contacts) (accepted file (o .accepted) .form .most)
 
+  abbrev lines : ℕ
+  lines = gateLine n + length gates / 5
+
+  abbrev first-two : Bool
+  first-two = areGates (gateLine n) gates && arePairs lines outputs
+
   pub gates-wired : areGates (gateLine n) gates ≡ true
   unfolding isSound
-  gates-wired = and-left _ (arePairs (gateLine n + length gates / 5) outputs) parts-sound
+  gates-wired = and-left _ (arePairs lines outputs) (and-left first-two (arePairs lines lamp) parts-sound)
 
   pub outputs-wired : arePairs (gateLine n + length gates / 5) outputs ≡ true
   unfolding isSound
-  outputs-wired = and-right (areGates (gateLine n) gates) _ parts-sound
+  outputs-wired = and-right (areGates (gateLine n) gates) _ (and-left first-two (arePairs lines lamp) parts-sound)
 
-  pub bounded : Bounds (netOf n gates outputs)
+  pub lamp-wired : arePairs (gateLine n + length gates / 5) lamp ≡ true
+  unfolding isSound
+  lamp-wired = and-right first-two _ parts-sound
+
+  pub bounded : Bounds (netWith n (gatesOf gates) (pairsOf outputs) (pairsOf lamp))
   bounded = rw (← net-is) (accepted file (o .accepted) .bounds)

@@ -1,7 +1,7 @@
 -- What is written reads back as it was, and what was read is written as it was.
 use native.Mathlib.Omega.{arith}
 use Prim.Native.Nat.{ℕ, zero, suc, _+_, _*_, _/_, _%_, _<_}
-use mathlib.Core.Path.{_≡_, sym, ap, ap₂, _∙_}
+use mathlib.Core.Path.{_≡_, sym, ap, _∙_}
 use mathlib.Core.List.{List, [], _∷_, flatMap}
 use lib.ListN.{length, getD}
 use lib.Seq.{ext-getD}
@@ -12,7 +12,7 @@ use Rattle.files.proofs.Heads.{field}
 use Rattle.netlist.specs.declared.Gate.{Gate}
 use Rattle.netlist.specs.declared.Pair.{Pair}
 use Rattle.files.specs.Header.{contactsOf}
-use Rattle.netlist.specs.Netlist.{numberAt, gateAt, pairAt, gatesOf, pairsOf, gateBytes, pairBytes, fileWith, fileOf}
+use Rattle.netlist.specs.Netlist.{numberAt, gateAt, pairAt, gatesOf, pairsOf, gateBytes, pairBytes, lampField, fileWith, fileOf}
 use Rattle.netlist.specs.Questions.{netlistOf}
 use Rattle.netlist.specs.Promises.{NetlistReadsBack, NetlistWritesBack}
 use Rattle.netlist.proofs.Accepted.{accepted}
@@ -72,5 +72,6 @@ netlist-writes-back file b z =
     let byte = value-bytes file b (f .whole) in
     let gates = gates-written (valueIn is 1) (byte 1) (f .gates .whole) in
     let pairs = pairs-written (valueIn is 2) (byte 2) (f .pairs .whole) in
-    let items = ap₂ (λ (v w : List ℕ). field 1 (contactsOf is ∷ []) ∷ field 4 v ∷ field 5 w ∷ []) gates pairs ∙ sym (f .items) in
-    ap encoded items ∙ encoded-of file b (f .whole)
+    let lamp = pairs-written (valueIn is 3) (byte 3) (f .lamp .whole) in
+    ap encoded ((λ i. field 1 (contactsOf is ∷ []) ∷ field 4 (gates i) ∷ field 5 (pairs i) ∷ lampField (lamp i)) ∙ sym (f .items))
+    ∙ encoded-of file b (f .whole)

@@ -68,18 +68,25 @@ pub holds-at : (lines : ℕ) (holds : List ℕ) → areHolds lines holds ≡ tru
 holds-at lines holds e i h =
     hold-in _ _ _ (all-at (λ k. isHold lines (lineBefore holds k) (holdAt holds k)) (length holds / 3) e i h)
 
--- The numbers of contacts, gates and outputs.
+-- The numbers of contacts, gates, outputs and lamps.
 pub record Bounds (net : Netlist) : Type 0 where
   pub least : 1 ≤ net .contacts
   pub most : net .contacts ≤ 12
-  pub gates : length (net .gates) ≤ 10560
+  pub gates : length (net .gates) ≤ 10602
   pub some : 1 ≤ length (net .pairs)
   pub few : length (net .pairs) ≤ 8
+  pub lamp : length (net .lamp) ≤ 1
 
 -- Every gate's kind is 0 or 1, and its sources are below its own line.
 abbrev pub Wired : Netlist → Type 0
 Wired net = (g : ℕ) (d : Gate) → g < length (net .gates) → GateOn (gateLine (net .contacts) + g) (getD (net .gates) g d)
 
--- Every output's lines are in the netlist.
+-- Every output's lines, and the lamp's, are in the netlist.
+abbrev pub PairsIn : ℕ → List Pair → Type 0
+PairsIn lines pairs = (j : ℕ) (d : Pair) → j < length pairs → PairIn lines (getD pairs j d)
+
 abbrev pub PairsWired : Netlist → Type 0
-PairsWired net = (j : ℕ) (d : Pair) → j < length (net .pairs) → PairIn (lineCount net) (getD (net .pairs) j d)
+PairsWired net = PairsIn (lineCount net) (net .pairs)
+
+abbrev pub LampWired : Netlist → Type 0
+LampWired net = PairsIn (lineCount net) (net .lamp)

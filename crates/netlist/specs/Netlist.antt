@@ -1,19 +1,21 @@
--- Netlists, and their files: five bytes a gate, four bytes an output, three bytes a hold.
+-- Netlists, and their files: five bytes a gate, four bytes an output and a lamp, three bytes a hold.
 use Prim.Native.Nat.{ℕ, _+_, _*_, _/_, _%_}
 use mathlib.Core.Bool.{Bool, false, _||_}
 use mathlib.Core.List.{List, [], _∷_, flatMap}
 use lib.Dec.{eqb}
 use lib.ListN.{length, getD}
 use Rattle.fields.specs.Bounded.{listed}
-use Rattle.fields.specs.Fields.{numberOf, encoded}
+use Rattle.fields.specs.Fields.{numberOf, Item, encoded}
 use Rattle.netlist.specs.declared.Gate.{Gate}
 use Rattle.netlist.specs.declared.Pair.{Pair}
 use Rattle.netlist.specs.declared.Hold.{Hold}
 
+-- The pairs are the outputs'. The lamp, in the field a two-rail checker, is one pair for all of them: a list of just its pair, or of none.
 pub record Netlist : Type 0 where
   pub contacts : ℕ
   pub gates : List Gate
   pub pairs : List Pair
+  pub lamp : List Pair
 
 -- The first gate's line, and the line after the last.
 abbrev pub gateLine : ℕ → ℕ
@@ -58,25 +60,31 @@ pairsOf v = listed (pairAt v) (length v / 4) 0
 unfoldable pub holdsOf : List ℕ → List Hold
 holdsOf v = listed (holdAt v) (length v / 3) 0
 
--- A netlist from its parts, and from the bytes of its gates and outputs.
-abbrev pub netWith : ℕ → List Gate → List Pair → Netlist
-netWith n gates pairs = record { contacts = n; gates = gates; pairs = pairs }
+-- A netlist from its parts, and one without a lamp from the bytes of its gates and outputs.
+abbrev pub netWith : ℕ → List Gate → List Pair → List Pair → Netlist
+netWith n gates pairs lamp = record { contacts = n; gates = gates; pairs = pairs; lamp = lamp }
 
 abbrev pub netOf : ℕ → List ℕ → List ℕ → Netlist
-netOf n gates pairs = netWith n (gatesOf gates) (pairsOf pairs)
+netOf n gates pairs = netWith n (gatesOf gates) (pairsOf pairs) []
 
--- The bytes of a gate and of an output.
+-- The bytes of a gate, and of an output or a lamp.
 abbrev pub gateBytes : Gate → List ℕ
 gateBytes g = g .kind ∷ g .left / 256 ∷ g .left % 256 ∷ g .right / 256 ∷ g .right % 256 ∷ []
 
 abbrev pub pairBytes : Pair → List ℕ
 pairBytes p = p .on / 256 ∷ p .on % 256 ∷ p .off / 256 ∷ p .off % 256 ∷ []
 
--- The file of a netlist of n contacts whose gates and outputs have these bytes, and of a netlist.
-unfoldable pub fileWith : ℕ → List ℕ → List ℕ → List ℕ
-fileWith n gates pairs =
+-- The field of a lamp's bytes; none without a lamp.
+abbrev pub lampField : List ℕ → List Item
+lampField [] = []
+lampField (b ∷ bs) = record { tag = 6; value = b ∷ bs } ∷ []
+
+-- The file of a netlist of n contacts whose gates, outputs and lamp have these bytes, and of a netlist.
+unfoldable pub fileWith : ℕ → List ℕ → List ℕ → List ℕ → List ℕ
+fileWith n gates pairs lamp =
     encoded
-    (record { tag = 1; value = n ∷ [] } ∷ record { tag = 4; value = gates } ∷ record { tag = 5; value = pairs } ∷ [])
+    (record { tag = 1; value = n ∷ [] } ∷ record { tag = 4; value = gates } ∷ record { tag = 5; value = pairs } ∷ lampField lamp)
 
 unfoldable pub fileOf : Netlist → List ℕ
-fileOf net = fileWith (net .contacts) (flatMap gateBytes (net .gates)) (flatMap pairBytes (net .pairs))
+fileOf net =
+    fileWith (net .contacts) (flatMap gateBytes (net .gates)) (flatMap pairBytes (net .pairs)) (flatMap pairBytes (net .lamp))

@@ -1,6 +1,6 @@
 -- Questions 11 to 14, about a netlist file and what it is run with.
 use Prim.Native.Nat.{ℕ, zero, suc, _+_, _*_, _/_, _%_}
-use mathlib.Core.Bool.{Bool, _&&_, cond}
+use mathlib.Core.Bool.{Bool, _&&_, _||_, cond}
 use mathlib.Core.List.{List, [], _∷_}
 use lib.Dec.{leb, ltb, eqb}
 use lib.ListN.{length, getD}
@@ -19,16 +19,20 @@ use Rattle.netlist.specs.declared.drive.Rails.{Rails}
 use Rattle.netlist.specs.declared.drive.Rails.the-variants.{Driven, Undriven}
 use Rattle.netlist.specs.declared.drive.Holds.{Holds}
 use Rattle.netlist.specs.declared.drive.Holds.the-variants.{Ordered, Disordered}
-use Rattle.netlist.specs.Netlist.{Netlist, gateAt, pairAt, holdAt, gateLine, netOf}
+use Rattle.netlist.specs.Netlist.{Netlist, gateAt, pairAt, holdAt, gatesOf, pairsOf, gateLine, netWith}
 
--- 11. Does the file have whole fields of tags 1, 4, 5 in that order and no more, tag 1 as in question 2, tag 4 of 0 to 10,560
--- whole gates, tag 5 of 1 to 8 whole outputs? No: 11.
+-- After three fields no more, or tag 6 of one whole pair and then no more.
+abbrev pub endsInLamp : List Item → Bool
+endsInLamp is = leb (length is) 3 || (hasParts 6 4 1 1 (itemIn is 3) && leb (length is) 4)
+
+-- 11. Does the file have whole fields of tags 1, 4, 5 in that order, then at most tag 6 and no more, tag 1 as in question 2, tag 4 of
+-- 0 to 10,602 whole gates, tag 5 of 1 to 8 whole outputs, tag 6 of one whole pair? No: 11.
 unfoldable pub formOf : Fields → Form
 formOf fs =
     cond
     (eqb (framingNumber (fs .framing)) 0 && eqb (contactsNumber (contactsIn (fs .items))) 0
-    && hasParts 4 5 0 10560 (itemIn (fs .items) 1) && hasParts 5 4 1 8 (itemIn (fs .items) 2)
-    && leb (length (fs .items)) 3)
+    && hasParts 4 5 0 10602 (itemIn (fs .items) 1) && hasParts 5 4 1 8 (itemIn (fs .items) 2)
+    && endsInLamp (fs .items))
     (Formed (contactsOf (fs .items)))
     Unformed
 
@@ -40,7 +44,7 @@ formNumber Unformed = 11
 abbrev pub isGate : ℕ → Gate → Bool
 isGate line gate = leb (gate .kind) 1 && ltb (gate .left) line && ltb (gate .right) line
 
--- An output of a netlist of so many lines: both its lines are in the netlist.
+-- An output or a lamp of a netlist of so many lines: both its lines are in the netlist.
 abbrev pub isPair : ℕ → Pair → Bool
 isPair lines pair = ltb (pair .on) lines && ltb (pair .off) lines
 
@@ -51,13 +55,15 @@ areGates first gates = all (length gates / 5) (λ g. isGate (first + g) (gateAt 
 abbrev pub arePairs : ℕ → List ℕ → Bool
 arePairs lines pairs = all (length pairs / 4) (λ j. isPair lines (pairAt pairs j))
 
--- 12. Is every kind 0 or 1, every source below its gate's own line, every output line in the netlist? No: 12. Asked of the
--- gates' and the outputs' bytes.
-unfoldable pub isSound : ℕ → List ℕ → List ℕ → Bool
-isSound n gates pairs = areGates (gateLine n) gates && arePairs (gateLine n + length gates / 5) pairs
+-- 12. Is every kind 0 or 1, every source below its gate's own line, every output line and lamp line in the netlist? No: 12. Asked of
+-- the gates', the outputs' and the lamp's bytes.
+unfoldable pub isSound : ℕ → List ℕ → List ℕ → List ℕ → Bool
+isSound n gates pairs lamp =
+    let lines = gateLine n + length gates / 5 in
+    areGates (gateLine n) gates && arePairs lines pairs && arePairs lines lamp
 
-abbrev pub wiringOf : ℕ → List ℕ → List ℕ → Wiring
-wiringOf n gates pairs = cond (isSound n gates pairs) Sound Unsound
+abbrev pub wiringOf : ℕ → List ℕ → List ℕ → List ℕ → Wiring
+wiringOf n gates pairs lamp = cond (isSound n gates pairs lamp) Sound Unsound
 
 abbrev pub wiringNumber : Wiring → ℕ
 wiringNumber Sound = 0
@@ -99,7 +105,7 @@ holdsNumber Disordered = 14
 
 -- The netlist that the fields hold, and that in a file.
 unfoldable pub netlistOf : List Item → Netlist
-netlistOf is = netOf (contactsOf is) (valueIn is 1) (valueIn is 2)
+netlistOf is = netWith (contactsOf is) (gatesOf (valueIn is 1)) (pairsOf (valueIn is 2)) (pairsOf (valueIn is 3))
 
 abbrev pub netlistIn : List ℕ → Netlist
 netlistIn file = netlistOf (fieldsOf file .items)
@@ -110,5 +116,5 @@ netlistRefusal file =
     let is = fieldsOf file .items in
     firstNo
     (formNumber (formOf (fieldsOf file))
-    ∷ wiringNumber (wiringOf (contactsOf is) (valueIn is 1) (valueIn is 2))
+    ∷ wiringNumber (wiringOf (contactsOf is) (valueIn is 1) (valueIn is 2) (valueIn is 3))
     ∷ [])

@@ -9,7 +9,7 @@ ghost use Prim.Native.Nat.{_+_, _*_, _≤_};
 ghost use lib.ListN.{length};
 ghost use Rattle.fields.specs.Fields.{fieldsOf};
 ghost use Rattle.netlist.specs.Netlist.{gateAt, pairAt, holdAt, numberAt};
-ghost use Rattle.netlist.specs.Questions.{formOf};
+ghost use Rattle.netlist.specs.Questions.{endsInLamp, formOf};
 
 // Question 11's answer: the count of contacts.
 pub enum Form {
@@ -17,8 +17,21 @@ pub enum Form {
     Unformed,
 }
 
-// Question 11: does the file have whole fields of tags 1, 4, 5 in that order and no more, tag 1 as in question 2, tag 4 of 0
-// to 10,560 whole gates, tag 5 of 1 to 8 whole outputs?
+// Whether no more follows three fields, or tag 6 of one whole pair and then no more.
+fn ends_in_lamp(file: &[u8]) -> bool
+    ensures { λ r. ⌜ r ≡ endsInLamp (fieldsOf (now (file .entry)) .items) ⌝ }
+{
+    if files::at_most(file, 3) {
+        return true;
+    }
+    if !files::has_parts(file, files::field_at(file, 3), 6, 4, 1, 1) {
+        return false;
+    }
+    files::at_most(file, 4)
+}
+
+// Question 11: does the file have whole fields of tags 1, 4, 5 in that order, then at most tag 6 and no more, tag 1 as in
+// question 2, tag 4 of 0 to 10,602 whole gates, tag 5 of 1 to 8 whole outputs, tag 6 of one whole pair?
 pub fn ask_form(file: &[u8]) -> Form
     ensures { λ r. ⌜ r ≡ formOf (fieldsOf (now (file .entry))) ⌝ }
 {
@@ -28,13 +41,13 @@ pub fn ask_form(file: &[u8]) -> Form
     let Contacts::Counted(n) = files::count_contacts(file) else {
         return Form::Unformed;
     };
-    if !files::has_parts(file, files::field_at(file, 1), 4, 5, 0, 10560) {
+    if !files::has_parts(file, files::field_at(file, 1), 4, 5, 0, 10602) {
         return Form::Unformed;
     }
     if !files::has_parts(file, files::field_at(file, 2), 5, 4, 1, 8) {
         return Form::Unformed;
     }
-    if !files::at_most(file, 3) {
+    if !ends_in_lamp(file) {
         return Form::Unformed;
     }
     Form::Formed(n)
@@ -60,7 +73,7 @@ pub fn gate_at(bytes: &[u8], g: usize) -> Gate
     }
 }
 
-// Output j of the outputs' bytes.
+// Output j of the outputs' bytes, or a lamp of its bytes.
 pub fn pair_at(bytes: &[u8], j: usize) -> Pair
     requires { ⌜ 4 * j + 4 ≤ length (now bytes) ⌝ }
     ensures { λ r. ⌜ r ≡ pairAt (now (bytes .entry)) j ⌝ }

@@ -12,6 +12,7 @@ pub use drive::Holds;
 pub use drive::Rails;
 pub use drive::ask_holds;
 pub use drive::ask_rails;
+pub use file::length_of;
 pub use file::put_file;
 pub use form::Form;
 pub use form::ask_form;
@@ -31,7 +32,7 @@ pub struct Gate {
     pub right: u16,
 }
 
-// An output's true line and false line.
+// An output's or a lamp's true line and false line.
 pub struct Pair {
     pub on: u16,
     pub off: u16,

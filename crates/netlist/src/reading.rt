@@ -7,12 +7,14 @@ use fields::Field;
 ghost use mathlib.Core.Path.{_≡_};
 ghost use Rattle.netlist.specs.Inner.Read.{Read};
 
-// A netlist's contacts and the fields of its gates and its outputs, or the number of the first question that it fails.
+// A netlist's contacts and the fields of its gates, its outputs and its lamp, or the number of the first question that it fails. The
+// lamp's field is empty where there is none.
 pub struct Parts {
     pub refusal: u32,
     pub contacts: usize,
     pub gates: Field,
     pub outputs: Field,
+    pub lamp: Field,
 }
 
 // A refusal, with every other result zero.
@@ -29,6 +31,7 @@ fn refused(number: u32) -> Parts
         contacts: 0,
         gates: none,
         outputs: none,
+        lamp: none,
     }
 }
 
@@ -41,10 +44,12 @@ pub fn read(file: &[u8]) -> Parts
     };
     let gates = files::field_at(file, 1);
     let outputs = files::field_at(file, 2);
+    let lamp = files::field_at(file, 3);
     let Wiring::Sound = wiring::ask_wiring(
         n,
         fields::value(file, gates),
         fields::value(file, outputs),
+        fields::value(file, lamp),
     ) else {
         return refused(12);
     };
@@ -53,5 +58,6 @@ pub fn read(file: &[u8]) -> Parts
         contacts: n,
         gates: gates,
         outputs: outputs,
+        lamp: lamp,
     }
 }

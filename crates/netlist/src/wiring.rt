@@ -1,4 +1,4 @@
-// Question 12, about a netlist's gates and outputs.
+// Question 12, about a netlist's gates, outputs and lamp.
 use crate::form;
 ghost use mathlib.Core.Path.{_≡_};
 ghost use Prim.Native.Nat.{_≤_};
@@ -30,7 +30,7 @@ fn gates_sound(first: usize, gates: &[u8]) -> bool
     true
 }
 
-// Whether every output's lines are in the netlist.
+// Whether every output's lines, or the lamp's, are in the netlist.
 fn pairs_sound(lines: usize, pairs: &[u8]) -> bool
     ensures { λ r. ⌜ r ≡ arePairs lines (now (pairs .entry)) ⌝ }
 {
@@ -46,16 +46,20 @@ fn pairs_sound(lines: usize, pairs: &[u8]) -> bool
     true
 }
 
-// Question 12: is every kind 0 or 1, every source below its gate's own line, every output line in the netlist?
-pub fn ask_wiring(n: usize, gates: &[u8], pairs: &[u8]) -> Wiring
+// Question 12: is every kind 0 or 1, every source below its gate's own line, every output line and lamp line in the netlist?
+pub fn ask_wiring(n: usize, gates: &[u8], pairs: &[u8], lamp: &[u8]) -> Wiring
     requires { ⌜ n ≤ 12 ⌝ }
-    ensures { λ r. ⌜ r ≡ wiringOf n (now (gates .entry)) (now (pairs .entry)) ⌝ }
+    ensures { λ r. ⌜ r ≡ wiringOf n (now (gates .entry)) (now (pairs .entry)) (now (lamp .entry)) ⌝ }
 {
     let first = 2 + 2 * n;
     if !gates_sound(first, gates) {
         return Wiring::Unsound;
     }
-    if !pairs_sound(first + gates.len() / 5, pairs) {
+    let lines = first + gates.len() / 5;
+    if !pairs_sound(lines, pairs) {
+        return Wiring::Unsound;
+    }
+    if !pairs_sound(lines, lamp) {
         return Wiring::Unsound;
     }
     Wiring::Sound

@@ -20,11 +20,13 @@ use Rattle.drawing.specs.Service.{tableFor, drawingRefusal, fromDrawingOf}
 use Rattle.drawing.proofs.Promises.{table-of-drawing, one-table, seventeen-if-wide}
 use Rattle.drawing.proofs.GivenBack.{table-given-back}
 use Rattle.rules.specs.Board.{tableBoard}
-use Rattle.synthesis.specs.Service.{checkedOr, checkedOf, buildingOf}
+use Rattle.rules.specs.Lamp.{lampBoard}
+use Rattle.synthesis.specs.Service.{checkedOr, checkedOf, buildingOf, lampBuildingOf}
 use Rattle.rules.proofs.Promises.{within-formulas, built-files-pass, right-code, different-netlists}
 use Rattle.probe.specs.Service.{probeRefusal, probingOr, probingOf}
 use Rattle.faults.proofs.Promises.{no-wrong-lines, run-writes, no-unseen-line}
 use Rattle.faults.proofs.Spare.{gates-read, spare-contacts, unread-unseen}
+use Rattle.lamp.proofs.Promises.{plain-first, lamp-formulas, lamp-files-pass, different-lamp-netlists, lamp-right-code, lamp-is-code, lamp-no-wrong-code, lamp-shows-stuck-line}
 use Rattle.pilgodur.proofs.Promises.{smallest, probe-writes}
 use Rattle.pilgodur.specs.Answers.{wayNumber, probeOf}
 use Rattle.pilgodur.specs.Demands.{Refusals, Demands}
@@ -50,11 +52,12 @@ probe-refused zero net hold buffer k e = absurd (omega arith)
 probe-refused (suc r) net hold buffer k e = (refl, refl, refl, refl)
 
 refusals : Refusals
-unfolding checkedOf buildingOf readingOf runOf probingOf probeOf sheetingOf fromDrawingOf
+unfolding checkedOf buildingOf lampBuildingOf readingOf runOf probingOf probeOf sheetingOf fromDrawingOf
 refusals =
     record {
       check = λ table. check-refused (tableRefusal table) (tableBoard table);
       build = λ table buffer. refused-writing (tableRefusal table) (fileOf (tableBoard table)) buffer;
+      buildWithLamp = λ table buffer. refused-writing (tableRefusal table) (fileOf (lampBoard table)) buffer;
       readOff = λ table a. read-refused (readRefusal table a) (diagramIn table) a;
       run = λ netlist rails holds lines pairs.
           run-refused (runRefusal netlist rails holds (length lines) (length pairs)) (netlistIn netlist) rails holds lines pairs;
@@ -93,4 +96,15 @@ demands =
             back = table-given-back;
           };
       twins = record { first = first-twins; none = no-twins; counted = pairs-counted; all = all-pairs };
+      lamps =
+          record {
+            plainFirst = plain-first;
+            within = lamp-formulas;
+            pass = lamp-files-pass;
+            different = different-lamp-netlists;
+            right = lamp-right-code;
+            code = lamp-is-code;
+            noWrongCode = lamp-no-wrong-code;
+            stuckLine = lamp-shows-stuck-line;
+          };
     }

@@ -21,17 +21,18 @@ use Rattle.rules.specs.Make.{_>>=_, sequence}
 use Rattle.rules.specs.Blocks.{cutWithin, cut, term, joined, productEntry, product, levelMatrix, block}
 use Rattle.rules.specs.Blocks as blocks
 use Rattle.rules.specs.Board.{wholeBlock, boardOf, depthsOf, depthOf}
+use Rattle.rules.specs.Lamp.{join, lampOf, withLamp}
 use Rattle.rules.specs.Code.{codeRails}
 use Rattle.files.specs.Room.{writingOf}
 use Rattle.sheet.specs.Sheet.{decimal, inFive, rowText, numberedRows, rowsFrom, sheetOf}
 use Rattle.sheet.specs.Service.{sheetingOf}
-use Rattle.synthesis.specs.Service.{checkedOf, buildingOf}
+use Rattle.synthesis.specs.Service.{checkedOf, buildingOf, lampBuildingOf}
 use Rattle.faults.specs.Betrayal.{stuckAt, noCode, betrays}
 use Rattle.probe.specs.Service.{probeRefusal, probingOf}
 use Rattle.pilgodur.specs.Answers.{probeOf}
 use mathlib.Core.List.{flatMap}
 
 pub all-starred : AllHold starred
-unfolding all any stepAt valueOf fieldsWithin fieldsFrom fieldsOf encoded contactsIn firstNo width edgeAt root inputOf inRange distinct mention mentions brought numbered outputsIn areLevels padded diagramOf fieldsRefusal diagramRefusal tableRefusal listed anyOf isRead gatesOf pairsOf holdsOf fileOf fileWith drive workOut held valuesOf shownOf formOf isSound areOrdered netlistOf netlistRefusal runRefusal runOf _>>=_ sequence cutWithin cut term blocks.tree joined productEntry product levelMatrix block wholeBlock boardOf depthsOf depthOf codeRails checkedOf writingOf buildingOf stuckAt noCode betrays leastFrom probeRefusal probingOf probeOf decimal inFive rowText numberedRows rowsFrom sheetOf sheetingOf flatMap bytesOf same tree place firsts levelOf isNarrow isAbove isDrawing next lead drawing.formOf drawingRefusal fromDrawingOf
+unfolding all any stepAt valueOf fieldsWithin fieldsFrom fieldsOf encoded contactsIn firstNo width edgeAt root inputOf inRange distinct mention mentions brought numbered outputsIn areLevels padded diagramOf fieldsRefusal diagramRefusal tableRefusal listed anyOf isRead gatesOf pairsOf holdsOf fileOf fileWith drive workOut held valuesOf shownOf formOf isSound areOrdered netlistOf netlistRefusal runRefusal runOf _>>=_ sequence cutWithin cut term blocks.tree joined productEntry product levelMatrix block wholeBlock boardOf depthsOf depthOf codeRails checkedOf writingOf buildingOf lampBuildingOf join lampOf withLamp stuckAt noCode betrays leastFrom probeRefusal probingOf probeOf decimal inFive rowText numberedRows rowsFrom sheetOf sheetingOf flatMap bytesOf same tree place firsts levelOf isNarrow isAbove isDrawing next lead drawing.formOf drawingRefusal fromDrawingOf
 all-starred =
-    (refl, ((refl, refl, refl), ((refl, refl), ((refl, refl), (refl, (refl, ((refl, refl), (refl, ((refl, refl, refl), (refl, (refl, (refl, ((refl, refl, refl), (refl, (refl, (refl, (refl, ((refl, refl, refl), ((refl, refl, refl), ((refl, refl, refl), ((refl, refl, refl), ((refl, refl, refl), ((refl, refl, refl), ((refl, refl, refl), (refl, ((refl, refl, refl), tt))))))))))))))))))))))))))
+    (refl, ((refl, refl, refl), ((refl, refl), ((refl, refl), (refl, (refl, ((refl, refl), (refl, ((refl, refl, refl), (refl, (refl, (refl, ((refl, refl, refl), (refl, (refl, (refl, (refl, ((refl, refl, refl), ((refl, refl, refl), ((refl, refl, refl), ((refl, refl, refl), ((refl, refl, refl), ((refl, refl, refl), ((refl, refl, refl), (refl, ((refl, refl, refl), ((refl, refl, refl), ((refl, refl, refl), ((refl, refl, refl), ((refl, refl), ((refl, refl), ((refl, refl, refl), tt))))))))))))))))))))))))))))))))

@@ -1,8 +1,8 @@
 -- The three demands and what was promised since, on the definitions that the services' contracts cite.
 --
 -- The services return and write just what these definitions say, for every byte string (the contracts in src/lib.rt):
--- check `checkedOf`, build `buildingOf`, read-off `readingOf`, run `runOf`, probe `probeOf`, sheet `sheetingOf`, from-drawing
--- `fromDrawingOf`. That each call is answered, and that nothing else is written, is what the proof of every function's contract says.
+-- check `checkedOf`, build `buildingOf`, build with lamp `lampBuildingOf`, read-off `readingOf`, run `runOf`, probe `probeOf`, sheet
+-- `sheetingOf`, from-drawing `fromDrawingOf`. That each call is answered, and that nothing else is written, is what the proof of every function's contract says.
 use Prim.Native.Nat.{ℕ, suc}
 use mathlib.Core.Path.{_≡_}
 use mathlib.Core.List.{List}
@@ -13,12 +13,13 @@ use Rattle.sheet.specs.Service.{sheetingOf}
 use Rattle.sheet.specs.Promises.{SheetDetermines, SheetLength}
 use Rattle.drawing.specs.Service.{fromDrawingOf}
 use Rattle.drawing.specs.Promises.{TableOfDrawing, OneTable, SeventeenIfWide, TableGivenBack}
-use Rattle.synthesis.specs.Service.{checkedOf, buildingOf}
+use Rattle.synthesis.specs.Service.{checkedOf, buildingOf, lampBuildingOf}
 use Rattle.rules.specs.Promises.{WithinFormulas, BuiltFilesPass, RightCode, DifferentNetlists}
 use Rattle.pilgodur.specs.Answers.{probeOf}
 use Rattle.pilgodur.specs.Promises.{Smallest, ProbeWrites}
 use Rattle.faults.specs.Promises.{NoWrongCode, RunWrites, NoUnseenLine}
 use Rattle.faults.specs.Spare.{GatesRead, SpareContacts, UnreadUnseen}
+use Rattle.lamp.specs.Promises.{PlainFirst, LampFormulas, LampFilesPass, DifferentLampNetlists, LampRightCode, LampCode, LampNoWrongCode, LampShowsStuckLine}
 
 -- Demand 1. The answer to every call is the full result or one numbered refusal; with a refusal every other result is zero, and it
 -- changes no byte that was lent.
@@ -27,6 +28,8 @@ pub record Refusals : Type 0 where
       (checkedOf table .contacts ≡ 0) × (checkedOf table .outputs ≡ 0) × (checkedOf table .gates ≡ 0) × (checkedOf table .depth ≡ 0)
   pub build : (table buffer : List ℕ) (k : ℕ) → buildingOf table buffer .refusal ≡ suc k →
       (buildingOf table buffer .length ≡ 0) × (buildingOf table buffer .buffer ≡ buffer)
+  pub buildWithLamp : (table buffer : List ℕ) (k : ℕ) → lampBuildingOf table buffer .refusal ≡ suc k →
+      (lampBuildingOf table buffer .length ≡ 0) × (lampBuildingOf table buffer .buffer ≡ buffer)
   pub readOff : (table : List ℕ) (a k : ℕ) → readingOf table a .refusal ≡ suc k → readingOf table a .word ≡ 0
   pub run : (netlist rails holds lines pairs : List ℕ) (k : ℕ) → runOf netlist rails holds lines pairs .refusal ≡ suc k →
       (runOf netlist rails holds lines pairs .lines ≡ lines) × (runOf netlist rails holds lines pairs .pairs ≡ pairs)
@@ -85,6 +88,20 @@ pub record AlikeNodes : Type 0 where
   pub counted : PairsCounted
   pub all : AllPairs
 
+-- The lamp. The netlist of an accepted table with its lamp begins with the one without, is within the formulas, passes questions 11 and
+-- 12 and differs from table to table; each permit pair shows the table's value and its opposite. With no added line held the lamp is a
+-- code exactly if every permit pair is; nobody makes it or a permit pair show another code by lines held all one way; just one line held
+-- of the plain board, if it is read there, shows at a permit pair and at the lamp.
+pub record Lamps : Type 0 where
+  pub plainFirst : PlainFirst
+  pub within : LampFormulas
+  pub pass : LampFilesPass
+  pub different : DifferentLampNetlists
+  pub right : LampRightCode
+  pub code : LampCode
+  pub noWrongCode : LampNoWrongCode
+  pub stuckLine : LampShowsStuckLine
+
 pub record Demands : Type 0 where
   pub first : Refusals
   pub second : Netlists
@@ -93,3 +110,4 @@ pub record Demands : Type 0 where
   pub sheets : Sheets
   pub drawings : Drawings
   pub twins : AlikeNodes
+  pub lamps : Lamps

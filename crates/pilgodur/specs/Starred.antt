@@ -8,15 +8,16 @@ use Rattle.simulation.specs.Service.{runOf}
 use Rattle.sheet.specs.Sheet.{ascii}
 use Rattle.sheet.specs.Service.{sheetingOf}
 use Rattle.drawing.specs.Service.{fromDrawingOf}
-use Rattle.synthesis.specs.Service.{checkedOf, buildingOf}
+use Rattle.synthesis.specs.Service.{checkedOf, buildingOf, lampBuildingOf}
 use Rattle.pilgodur.specs.Answers.{probeOf}
 
--- What a service answers: check's numbers; the file that build writes to a buffer of its length; the pairs that a run of a netlist
--- writes; probe's numbers; the lines of the sheet of a netlist, written to a buffer of its length; the table of a drawing, written to
+-- What a service answers: check's numbers; the file that build, or build with lamp, writes to a buffer of its length; the pairs that a
+-- run of a netlist writes to a buffer of their length; probe's numbers; the lines of the sheet of a netlist, written to a buffer of its length; the table of a drawing, written to
 -- a buffer of its length, or the refusal and no table.
 pub data Case : Type 0 where
   checks : (table : List ℕ) (refusal contacts outputs gates depth : ℕ) → Case
   builds : (table : List ℕ) (size : ℕ) (file : List ℕ) → Case
+  lights : (table : List ℕ) (size : ℕ) (file : List ℕ) → Case
   runs : (netlist rails holds pairs : List ℕ) → Case
   probes : (table hold : List ℕ) (refusal input output way : ℕ) → Case
   sheets : (netlist : List ℕ) (lines : List String) → Case
@@ -31,8 +32,10 @@ Answered (checks table refusal contacts outputs gates depth) =
     checkedOf table ≡ record { refusal = refusal; contacts = contacts; outputs = outputs; gates = gates; depth = depth }
 Answered (builds table size file) =
     let b = buildingOf table (replicate size 0) in (b .refusal ≡ 0) × (b .length ≡ size) × (b .buffer ≡ file)
+Answered (lights table size file) =
+    let b = lampBuildingOf table (replicate size 0) in (b .refusal ≡ 0) × (b .length ≡ size) × (b .buffer ≡ file)
 Answered (runs netlist rails holds pairs) =
-    let r = runOf netlist rails holds (replicate 17 0) (replicate 2 0) in (r .refusal ≡ 0) × (r .pairs ≡ pairs)
+    let r = runOf netlist rails holds (replicate 17 0) (replicate (length pairs) 0) in (r .refusal ≡ 0) × (r .pairs ≡ pairs)
 Answered (probes table hold refusal input output way) =
     probeOf table hold room .answer ≡ record { refusal = refusal; input = input; output = output; way = way }
 Answered (sheets netlist lines) =
@@ -84,10 +87,9 @@ chooser =
 -- First row, true: AND 11 16; AND 12 8; AND 13 19; OR 26 27; OR 29 28.
 -- Second row: AND 4 15; OR 5 31; AND 4 16.
 -- True line 30, false line 25; true line 33, false line 32.
-abbrev pub chooserFile : List ℕ
-chooserFile =
-    1 ∷ 0 ∷ 1 ∷ 4 ∷ 4 ∷ 0 ∷ 120
-    ∷ 0 ∷ 0 ∷ 3 ∷ 0 ∷ 5
+abbrev pub chooserGates : List ℕ
+chooserGates =
+    0 ∷ 0 ∷ 3 ∷ 0 ∷ 5
     ∷ 0 ∷ 0 ∷ 3 ∷ 0 ∷ 4
     ∷ 0 ∷ 0 ∷ 2 ∷ 0 ∷ 5
     ∷ 0 ∷ 0 ∷ 2 ∷ 0 ∷ 4
@@ -111,7 +113,41 @@ chooserFile =
     ∷ 0 ∷ 0 ∷ 4 ∷ 0 ∷ 15
     ∷ 1 ∷ 0 ∷ 5 ∷ 0 ∷ 31
     ∷ 0 ∷ 0 ∷ 4 ∷ 0 ∷ 16
-    ∷ 5 ∷ 0 ∷ 8 ∷ 0 ∷ 30 ∷ 0 ∷ 25 ∷ 0 ∷ 33 ∷ 0 ∷ 32 ∷ []
+    ∷ []
+
+abbrev pub chooserFile : List ℕ
+chooserFile =
+    (1 ∷ 0 ∷ 1 ∷ 4 ∷ 4 ∷ 0 ∷ 120 ∷ []) ++ chooserGates ++ (5 ∷ 0 ∷ 8 ∷ 0 ∷ 30 ∷ 0 ∷ 25 ∷ 0 ∷ 33 ∷ 0 ∷ 32 ∷ [])
+
+-- With its lamp: AND 30 33; AND 25 32; OR 34 35; AND 30 32; AND 25 33; OR 37 38. Lamp 36 and 39.
+abbrev pub chooserLampFile : List ℕ
+chooserLampFile =
+    (1 ∷ 0 ∷ 1 ∷ 4 ∷ 4 ∷ 0 ∷ 150 ∷ []) ++ chooserGates
+    ++ (0 ∷ 0 ∷ 30 ∷ 0 ∷ 33
+    ∷ 0 ∷ 0 ∷ 25 ∷ 0 ∷ 32
+    ∷ 1 ∷ 0 ∷ 34 ∷ 0 ∷ 35
+    ∷ 0 ∷ 0 ∷ 30 ∷ 0 ∷ 32
+    ∷ 0 ∷ 0 ∷ 25 ∷ 0 ∷ 33
+    ∷ 1 ∷ 0 ∷ 37 ∷ 0 ∷ 38
+    ∷ 5 ∷ 0 ∷ 8 ∷ 0 ∷ 30 ∷ 0 ∷ 25 ∷ 0 ∷ 33 ∷ 0 ∷ 32
+    ∷ 6 ∷ 0 ∷ 4 ∷ 0 ∷ 36 ∷ 0 ∷ 39 ∷ [])
+
+-- One contact, an output that is never on and one that always is.
+abbrev pub steady : List ℕ
+steady = 1 ∷ 0 ∷ 1 ∷ 1 ∷ 2 ∷ 0 ∷ 2 ∷ 0 ∷ 1 ∷ 3 ∷ 0 ∷ 4 ∷ 0 ∷ 0 ∷ 1 ∷ 1 ∷ []
+
+-- Its lamp reads the constants: AND 0 1; AND 1 0; OR 4 5; AND 0 0; AND 1 1; OR 7 8. Lamp 6 and 9.
+abbrev pub steadyLampFile : List ℕ
+steadyLampFile =
+    1 ∷ 0 ∷ 1 ∷ 1 ∷ 4 ∷ 0 ∷ 30
+    ∷ 0 ∷ 0 ∷ 0 ∷ 0 ∷ 1
+    ∷ 0 ∷ 0 ∷ 1 ∷ 0 ∷ 0
+    ∷ 1 ∷ 0 ∷ 4 ∷ 0 ∷ 5
+    ∷ 0 ∷ 0 ∷ 0 ∷ 0 ∷ 0
+    ∷ 0 ∷ 0 ∷ 1 ∷ 0 ∷ 1
+    ∷ 1 ∷ 0 ∷ 7 ∷ 0 ∷ 8
+    ∷ 5 ∷ 0 ∷ 8 ∷ 0 ∷ 0 ∷ 0 ∷ 1 ∷ 0 ∷ 1 ∷ 0 ∷ 0
+    ∷ 6 ∷ 0 ∷ 4 ∷ 0 ∷ 6 ∷ 0 ∷ 9 ∷ []
 
 -- The selector drawn with a node twice, a node that nothing mentions, and edges past a level.
 abbrev pub redrawn : List ℕ
@@ -203,4 +239,23 @@ starred =
     -- Beyond the starred cases: two rows, both blocks with gates, and ORs of three and four terms.
     ∷ checks chooser 0 4 2 24 5
     ∷ builds chooser 138 chooserFile
+    -- Lamps: one output, whose pair it is; two outputs, and two that are constants.
+    ∷ lights single 21 (1 ∷ 0 ∷ 1 ∷ 1 ∷ 4 ∷ 0 ∷ 0 ∷ 5 ∷ 0 ∷ 4 ∷ 0 ∷ 2 ∷ 0 ∷ 3 ∷ 6 ∷ 0 ∷ 4 ∷ 0 ∷ 2 ∷ 0 ∷ 3 ∷ [])
+    ∷ lights chooser 175 chooserLampFile
+    ∷ lights steady 55 steadyLampFile
+    -- The lamp's pair last; with line 8 held at 0 it shows 00.
+    ∷ runs steadyLampFile (1 ∷ 0 ∷ []) [] (0 ∷ 1 ∷ 1 ∷ 0 ∷ 0 ∷ 1 ∷ [])
+    ∷ runs steadyLampFile (1 ∷ 0 ∷ []) (0 ∷ 8 ∷ 0 ∷ []) (0 ∷ 1 ∷ 1 ∷ 0 ∷ 0 ∷ 0 ∷ [])
+    ∷ sheets steadyLampFile
+    (" LINE KIN     A     B"
+    ∷ "    4 AND     0     1"
+    ∷ "    5 AND     1     0"
+    ∷ "    6 OR      4     5"
+    ∷ "    7 AND     0     0"
+    ∷ "    8 AND     1     1"
+    ∷ "    9 OR      7     8"
+    ∷ "    0 OUT     0     1"
+    ∷ "    1 OUT     1     0"
+    ∷ "    0 LMP     6     9"
+    ∷ [])
     ∷ []

@@ -8,7 +8,7 @@ ghost use Rattle.table.specs.Table.{readingOf};
 ghost use Rattle.simulation.specs.Service.{runOf};
 ghost use Rattle.sheet.specs.Service.{sheetingOf};
 ghost use Rattle.drawing.specs.Service.{fromDrawingOf};
-ghost use Rattle.synthesis.specs.Service.{checkedOf, buildingOf};
+ghost use Rattle.synthesis.specs.Service.{checkedOf, buildingOf, lampBuildingOf};
 ghost use Rattle.pilgodur.specs.Answers.{wayNumber, probeOf};
 
 // What probe returns to C; the way is 0 for both low, 1 for both high.
@@ -35,6 +35,15 @@ pub extern "C" fn pilgodur_build(table: &[u8], file: &mut [u8]) -> Written
         ≡ buildingOf (now (table .entry)) (now (file .entry)) ⌝ }
 {
     synthesis::build(table, file)
+}
+
+// Builds a table's netlist with its lamp: questions 1 to 7, then 9; the file's bytes and its length.
+#[no_mangle]
+pub extern "C" fn pilgodur_build_with_lamp(table: &[u8], file: &mut [u8]) -> Written
+    ensures { λ r. ⌜ record { refusal = r .refusal; length = r .length; buffer = now (file .exit) }
+        ≡ lampBuildingOf (now (table .entry)) (now (file .entry)) ⌝ }
+{
+    synthesis::build_with_lamp(table, file)
 }
 
 // Reads a table's outputs off at an input: questions 1 to 7, then 10.

@@ -1,19 +1,23 @@
 -- The bytes of an accepted table's netlist: what probe needs of them.
 use Prim.Native.Nat.{ℕ, _+_, _/_, _≤_}
 use native.Mathlib.Omega.{arith}
-use mathlib.Core.Path.{_≡_, ap₂}
+use mathlib.Core.Path.{_≡_, refl, sym, ap, _∙_}
 use mathlib.Core.Bool.{true}
-use mathlib.Core.List.{List, flatMap}
+use mathlib.Core.List.{List, [], flatMap}
 use lib.ListN.{length}
-use Rattle.fields.proofs.Bounded.{and-left, and-right}
+use Rattle.fields.specs.Fields.{Fields, fieldsOf, valueIn}
+use Rattle.files.specs.Header.{contactsOf}
 use Rattle.diagram.specs.declared.Diagram.{Diagram}
 use Rattle.diagram.specs.Questions.{Sized}
 use Rattle.diagram.proofs.Unique.{Reduced}
 use Rattle.table.proofs.Accepted.{accepted}
 use Rattle.netlist.specs.declared.drive.Holds.the-variants.{Ordered}
-use Rattle.netlist.specs.Netlist.{Netlist, gateLine, lineCount, isRead, gateBytes, pairBytes, netWith, holdAt, fileOf, netOf}
-use Rattle.netlist.specs.Questions.{areGates, arePairs, isSound, netlistOf, areHolds}
+use Rattle.netlist.specs.Netlist.{Netlist, gateLine, lineCount, isRead, gateBytes, pairBytes, netWith, holdAt, fileWith, fileOf, netOf}
+use Rattle.netlist.specs.Questions.{areHolds}
+use Rattle.netlist.specs.declared.Pair.{Pair}
+use Rattle.netlist.proofs.Written.{file-of}
 use Rattle.netlist.proofs.Files.{file-fields, file-length, length-gate-bytes, length-pair-bytes, gates-back, pairs-back}
+use Rattle.netlist.proofs.Opened.{Opened, gates-wired, outputs-wired}
 use Rattle.rules.specs.Board.{boardOf, tableBoard}
 use Rattle.table.specs.Promises.{Accepted}
 use Rattle.table.specs.Table.{diagramIn}
@@ -23,7 +27,6 @@ use Rattle.probe.specs.Inner.Findings.{ProbeReady, AcceptedDiagram}
 use Rattle.probe.specs.Service.{oneHold}
 use Rattle.faults.proofs.Betrayed.{betrayed}
 use Rattle.probe.proofs.OneHold.{one-held, held-line}
-use Rattle.netlist.proofs.Accepted as netlists
 
 -- The bytes of a netlist.
 module _ (net : Netlist) where
@@ -33,10 +36,20 @@ module _ (net : Netlist) where
   abbrev pub pairsOn : List ℕ
   pairsOn = flatMap pairBytes (net .pairs)
 
-  pub net-is : netOf (net .contacts) gatesOn pairsOn ≡ net
-  net-is =
-      ap₂ (netWith (net .contacts))
-      (gates-back (net .gates)) (pairs-back (net .pairs))
+  pub net-is : net .lamp ≡ [] → netOf (net .contacts) gatesOn pairsOn ≡ net
+  net-is none =
+      let gates = gates-back (net .gates) in
+      let pairs = pairs-back (net .pairs) in
+      λ i. netWith (net .contacts) (gates i) (pairs i) (sym none i)
+
+  pub file-is : net .lamp ≡ [] → fileWith (net .contacts) gatesOn pairsOn [] ≡ fileOf net
+  unfolding flatMap
+  file-is none = ap (λ (ps : List Pair). fileWith (net .contacts) gatesOn pairsOn (flatMap pairBytes ps)) (sym none) ∙ file-of net
+
+-- A board has no lamp.
+pub lampless : (d : Diagram) → boardOf d .lamp ≡ []
+unfolding boardOf
+lampless d = refl
 
 -- The bytes of an accepted table's netlist.
 module _ (table : List ℕ) (yes! : Accepted table) where
@@ -46,19 +59,16 @@ module _ (table : List ℕ) (yes! : Accepted table) where
   abbrev pairs : List ℕ
   pairs = pairsOn (tableBoard table)
 
-  sound : isSound (tableBoard table .contacts) gates pairs ≡ true
-  unfolding netlistOf
-  sound =
-      let net = tableBoard table in
-      rw (file-fields net) at (netlists.accepted (fileOf net) (built-files-pass table yes! .1) .sound)
-
-  wired : areGates (gateLine (tableBoard table .contacts)) gates ≡ true
-  unfolding isSound
-  wired = and-left _ (arePairs (gateLine (tableBoard table .contacts) + length gates / 5) pairs) sound
-
-  paired : arePairs (gateLine (tableBoard table .contacts) + length gates / 5) pairs ≡ true
-  unfolding isSound
-  paired = and-right (areGates (gateLine (tableBoard table .contacts)) gates) _ sound
+  opened : Opened (fileOf (tableBoard table)) (tableBoard table .contacts) gates pairs (valueIn (fieldsOf (fileOf (tableBoard table)) .items) 3)
+  opened =
+      let fields = sym (file-fields (tableBoard table)) in
+      record {
+        accepted = built-files-pass table yes! .1;
+        contacts = ap (λ (fs : Fields). contactsOf (fs .items)) fields;
+        gates-are = ap (λ (fs : Fields). valueIn (fs .items) 1) fields;
+        outputs-are = ap (λ (fs : Fields). valueIn (fs .items) 2) fields;
+        lamp-is = refl;
+      }
 
   findable-in : (hold : List ℕ) (room : ℕ) → oneHold (lineCount (tableBoard table)) hold ≡ Ordered →
       isRead (tableBoard table) (holdAt hold 0 .line) ≡ true →
@@ -79,17 +89,17 @@ module _ (table : List ℕ) (yes! : Accepted table) where
       let held : areHolds (gateLine (net .contacts) + length gates / 5) hold ≡ true = rw count (one .1) in
       record {
         writable = record {
-          lines = record { few = s .contacts .1; wired = wired; one = one .0; held = held; fits = omega arith };
+          lines = record { few = s .contacts .1; wired = gates-wired opened; one = one .0; held = held; fits = omega arith };
           bytes = (omega arith, omega (arith, s .outputs));
           fits = omega arith;
         };
         searchable = record {
           few = s .contacts .1;
           fits = omega arith;
-          wired = wired;
-          paired = paired;
+          wired = gates-wired opened;
+          paired = outputs-wired opened;
           value = first .bit;
-          seen = rw (net-is net) (betrayed table yes! (holdAt hold 0 .line) (holdAt hold 0 .value) (first .after) read (first .bit));
+          seen = rw (net-is net refl) (betrayed table yes! (holdAt hold 0 .line) (holdAt hold 0 .value) (first .after) read (first .bit));
         };
       }
 

@@ -17,7 +17,6 @@ use Rattle.netlist.specs.Questions.{holdsNumber}
 use Rattle.files.specs.Room.{over, roomOf, roomNumber}
 use Rattle.files.proofs.Buffers.{enough}
 use Rattle.rules.specs.Board.{boardOf}
-use Rattle.netlist.proofs.Written.{file-of}
 use Rattle.synthesis.proofs.Services.{Unrefused, length-is}
 use Rattle.probe.specs.declared.service.Probed.{Probed}
 use Rattle.faults.specs.Betrayal.{stuckAt, smallestInput}
@@ -27,7 +26,7 @@ use Rattle.probe.specs.declared.fanout.Fanout.the-variants.{Read, Unread
 use Rattle.probe.specs.Service.{oneHold, fanoutOf, fanoutNumber, boardAnswers, Probing, probeRefusal, foundAt, refusedProbe, probingOf}
 use Rattle.probe.specs.Inner.Probing.{probingOn}
 use Rattle.probe.proofs.Fanouts.{read-zero}
-use Rattle.probe.proofs.Boards.{gatesOn, pairsOn, net-is, sized, findable}
+use Rattle.probe.proofs.Boards.{gatesOn, pairsOn, net-is, file-is, lampless, sized, findable}
 
 abbrev probing : Probed → List ℕ → Probing Probed
 probing r after = record { answer = r; buffer = after }
@@ -130,7 +129,7 @@ module _ {d : Diagram} (drawn : AcceptedDiagram d) {made : ℕ} (count : made �
             rw none
             (ap₂ probing
             (w' .answered
-            ∙ ap (λ (net : Netlist). foundAt (net .pairs) (smallestInput net h) (stuckAt net h (smallestInput net h))) (net-is net))
+            ∙ ap (λ (net : Netlist). foundAt (net .pairs) (smallestInput net h) (stuckAt net h (smallestInput net h))) (net-is net (lampless d)))
             (w' .written
-            ∙ ap₂ (λ (file : List ℕ) (net : Netlist). over (file ++ stuckAt net h (smallestInput net h)) buffer) (file-of net)
-            (net-is net)))
+            ∙ ap₂ (λ (file : List ℕ) (net : Netlist). over (file ++ stuckAt net h (smallestInput net h)) buffer) (file-is net (lampless d))
+            (net-is net (lampless d))))

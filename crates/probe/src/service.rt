@@ -106,11 +106,11 @@ fn write_at(
     ensures { λ r. ⌜ r ≡ 10 + length (now (gates .entry)) + length (now (pairs .entry)) ⌝ }
     ensures { λ _. ⌜ now (buffer .exit)
         ≡ over
-        (fileWith n (now (gates .entry)) (now (pairs .entry))
+        (fileWith n (now (gates .entry)) (now (pairs .entry)) []
         ++ stuckAt (netOf n (now (gates .entry)) (now (pairs .entry))) (holdAt (now (hold .entry)) 0) input)
         (now (buffer .entry)) ⌝ }
 {
-    netlist::put_file(buffer, n, gates, pairs);
+    netlist::put_file(buffer, n, gates, pairs, b"");
     let start = 10 + gates.len() + pairs.len();
     show_at(gates, n, hold, input, &mut buffer[start..]);
     start

@@ -109,5 +109,6 @@ module _ {S : ℕ → Type 0} {δ : ℕ → ℕ} {most : ℕ} {A : Type 0} (L : 
       (lays-tree b (every-map (λ z. stays e e _ mid z (omega arith) l) (every-drop (size a) all))
       (omega (arith, length-drop (size a) xs)) (omega arith)) (λ end y l' ly.
       lays-weaken
-      (joins (e + h * k) end x y (stays _ _ _ _ x (omega arith) l' lx) (stays _ _ _ _ y (omega arith) (omega arith) ly) (omega arith))
+      (joins (e + h * k) end x y (stays _ _ _ _ x (omega arith) l' lx) (stays _ _ _ _ y (omega arith) (omega arith) ly)
+      (omega arith))
       (λ n z l'' lz. stays _ _ _ _ z (omega arith) (omega arith) lz)))

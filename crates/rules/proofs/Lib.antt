@@ -19,6 +19,8 @@ pub mod Counts
 pub mod Bounds
 pub mod Lays
 pub mod Lines
+pub mod LampCounts
+pub mod LampLines
 pub mod Wired
 pub mod Depths
 pub mod Held

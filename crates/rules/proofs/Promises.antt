@@ -5,7 +5,7 @@ use Rattle.table.proofs.Accepted.{accepted}
 use Rattle.table.proofs.Encode.{bytes-are}
 use Rattle.table.proofs.SameFile.{same-file}
 use Rattle.netlist.proofs.Files.{reads-back, file-determines, file-accepted}
-use Rattle.netlist.proofs.Tests.{Bounds}
+use Rattle.netlist.proofs.Tests.{Bounds, LampWired}
 use Rattle.rules.specs.Board.{boardOf, tableBoard}
 use Rattle.rules.specs.Promises.{WithinFormulas, BuiltFilesPass, RightCode, DifferentNetlists}
 use Rattle.table.specs.Table.{diagramIn}
@@ -47,13 +47,15 @@ built-files-pass table (bytes, all) =
     record {
       least = some;
       most = s .contacts .1;
-      gates = gates-most d some (s .contacts .1) (sized-narrow d s);
+      gates = omega (arith, gates-most d some (s .contacts .1) (sized-narrow d s));
       some = omega (arith, s .outputs);
       few = omega (arith, s .outputs);
+      lamp = omega arith;
     } in
     let wired = board-wired d some in
     let shown = pairs-wired d some in
-    (file-bytes net bounds wired shown, file-accepted net bounds wired shown, reads-back net)
+    let lit : LampWired net = λ j none h. absurd (omega arith) in
+    (file-bytes net bounds wired shown lit, file-accepted net bounds wired shown lit, reads-back net)
 
 pub different-netlists : DifferentNetlists
 different-netlists a b (abytes, ayes) (bbytes, byes) e =

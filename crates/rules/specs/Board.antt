@@ -29,7 +29,7 @@ abbrev pub pairOf : Diagram → Matrix → ℕ → Pair
 pairOf d m j = record { on = lineOf (entryAt m (root d j) 1); off = lineOf (entryAt m (root d j) 0) }
 
 unfoldable pub boardOf : Diagram → Netlist
-boardOf d = netWith (d .contacts) (wholeBlock d .0) (listed (pairOf d (wholeBlock d .1)) (d .outputs) 0)
+boardOf d = netWith (d .contacts) (wholeBlock d .0) (listed (pairOf d (wholeBlock d .1)) (d .outputs) 0) []
 
 -- A rail or constant has depth 0, a gate one more than its deeper source.
 abbrev pub depthRule : Rule ℕ

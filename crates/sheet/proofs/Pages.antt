@@ -1,9 +1,9 @@
 -- Rows one after another, under headings: where they end, what one more adds, and the whole sheet.
 use borrow.Author.Tests.{ltb-true, ltb-false, eqb-true, eqb-false, lt-ltb, le-ltb, eq-eqb, ne-eqb}
-use native.Mathlib.Nat.{add-zero, zero-add}
+use native.Mathlib.Nat.{add-zero}
 use native.Mathlib.Omega.{arith}
 use Prim.Native.Nat.{ℕ, suc, _+_, _*_, _/_, _%_, _≤_}
-use mathlib.Core.Path.{_≡_, refl, sym, ap, _∙_}
+use mathlib.Core.Path.{_≡_, refl, sym, ap, ap₂, _∙_}
 use mathlib.Core.Bool.{Bool, true, false, _&&_, cond}
 use mathlib.Core.List.{List, [], _∷_, _++_, append-assoc, append-nil}
 use lib.Dec.{ltb, eqb}
@@ -18,7 +18,7 @@ use Rattle.netlist.specs.declared.Gate.{Gate}
 use Rattle.netlist.specs.Netlist.{Netlist, gateLine}
 use Rattle.sheet.specs.declared.row.Kind.{Kind}
 use Rattle.sheet.specs.declared.row.Row.{Row}
-use Rattle.sheet.specs.Sheet.{rowText, heading, headingAfter, kindOf, gateRow, outputRow, numberedRows, rowsOf, rowsFrom, sheetOf}
+use Rattle.sheet.specs.Sheet.{rowText, heading, headingAfter, kindOf, gateRow, outputRow, lampRow, numberedRows, rowsFrom, sheetOf}
 use Rattle.sheet.specs.Inner.Places.{endOf, placeOf}
 use Rattle.sheet.proofs.Rows.{length-row}
 
@@ -119,42 +119,66 @@ pub next-written : (l : List ℕ) (k : ℕ) (r : Row) {m n : List ℕ} → m ≡
     n ≡ sets m (placeOf k) (rowText r) → n ≡ sets l (endOf k) (headingAfter k ++ rowText r)
 next-written l k r d e = onward l (endOf k) (headingAfter k) (rowText r) d e (sym (heading-end k))
 
--- The heading, the gates' rows and the outputs' rows are the sheet.
+-- More rows, below a sheet's heading and its first k rows.
+rows-onward : (text : List ℕ) (k : ℕ) (rs ss : List Row) {now after : List ℕ} → 0 + length rs ≡ k →
+    now ≡ sets text 0 (heading ++ rowsFrom 0 rs) → after ≡ sets now (endOf k) (rowsFrom k ss) →
+    after ≡ sets text 0 (heading ++ rowsFrom 0 (rs ++ ss))
+rows-onward text k rs ss count n a =
+    let l = length-append heading (rowsFrom 0 rs) in
+    let ends = rows-end 0 rs in
+    onward text 0 (heading ++ rowsFrom 0 rs) (rowsFrom k ss) n a (rw (← count) (omega arith))
+    ∙ ap (sets text 0)
+    (append-assoc heading (rowsFrom 0 rs) (rowsFrom k ss)
+    ∙ ap (_++_ heading) (ap (λ (i : ℕ). rowsFrom 0 rs ++ rowsFrom i ss) (sym count) ∙ sym (rows-append 0 rs ss)))
+
+-- The heading, the gates' rows, the outputs' rows and the lamp's row are the sheet.
 module _ (net : Netlist) where
-  abbrev gateRows : List Row
+  abbrev pub gateRows : List Row
   gateRows = numberedRows gateRow (gateLine (net .contacts)) (net .gates)
 
-  abbrev outputRows : List Row
+  abbrev pub outputRows : List Row
   outputRows = numberedRows outputRow 0 (net .pairs)
 
-  rows-joined : rowsFrom 0 (rowsOf net) ≡ rowsFrom 0 gateRows ++ rowsFrom (length (net .gates)) outputRows
-  rows-joined =
-      rows-append 0 gateRows outputRows
-      ∙ ap (λ (k : ℕ). rowsFrom 0 gateRows ++ rowsFrom k outputRows)
-      (zero-add (length gateRows) ∙ length-numbered gateRow (gateLine (net .contacts)) (net .gates))
+  abbrev pub lampRows : List Row
+  lampRows = numberedRows lampRow 0 (net .lamp)
 
-  pub sheet-end : length (sheetOf net) ≡ endOf (length (net .gates) + length (net .pairs))
-  unfolding sheetOf
-  sheet-end =
-      let l = length-append heading (rowsFrom 0 (rowsOf net)) in
-      let e = rows-end 0 (rowsOf net) in
-      let g = length-numbered gateRow (gateLine (net .contacts)) (net .gates) in
+  -- How many rows stand above the lamp's, and how many there are.
+  abbrev above : ℕ
+  above = length (net .gates) + length (net .pairs)
+
+  abbrev rowCount : ℕ
+  rowCount = above + length (net .lamp)
+
+  gates-counted : 0 + length gateRows ≡ length (net .gates)
+  gates-counted = let g = length-numbered gateRow (gateLine (net .contacts)) (net .gates) in omega arith
+
+  outputs-counted : 0 + length (gateRows ++ outputRows) ≡ above
+  outputs-counted =
+      let g = gates-counted in
       let p = length-numbered outputRow 0 (net .pairs) in
       let c = length-append gateRows outputRows in
-      let n : 0 + length (rowsOf net) ≡ length (net .gates) + length (net .pairs) = omega arith in
-      rw (← n) (omega arith)
+      omega arith
 
-  pub sheet-written : (text : List ℕ) {a b c : List ℕ} → endOf (length (net .gates) + length (net .pairs)) ≤ length text →
-      a ≡ sets text 0 heading → b ≡ sets a (endOf 0) (rowsFrom 0 gateRows) →
-      c ≡ sets b (endOf (length (net .gates))) (rowsFrom (length (net .gates)) outputRows) → c ≡ over (sheetOf net) text
+  rows-counted : 0 + length (gateRows ++ outputRows ++ lampRows) ≡ rowCount
+  rows-counted =
+      let p = outputs-counted in
+      let m = length-numbered lampRow 0 (net .lamp) in
+      let c = length-append (gateRows ++ outputRows) lampRows in
+      omega arith
+
+  pub sheet-end : length (sheetOf net) ≡ endOf rowCount
   unfolding sheetOf
-  sheet-written text room d e f =
-      let g = length-numbered gateRow (gateLine (net .contacts)) (net .gates) in
-      let ends = rows-end 0 gateRows in
-      let count : 0 + length gateRows ≡ length (net .gates) = omega arith in
-      let first = onward text 0 heading (rowsFrom 0 gateRows) d e (omega arith) in
-      let l = length-append heading (rowsFrom 0 gateRows) in
-      onward text 0 (heading ++ rowsFrom 0 gateRows) (rowsFrom (length (net .gates)) outputRows) first f (rw (← count) (omega arith))
-      ∙ ap (sets text 0)
-      (append-assoc heading (rowsFrom 0 gateRows) (rowsFrom (length (net .gates)) outputRows) ∙ sym (ap (_++_ heading) rows-joined))
+  sheet-end =
+      let rows = gateRows ++ outputRows ++ lampRows in
+      length-append heading (rowsFrom 0 rows) ∙ rows-end 0 rows ∙ ap endOf rows-counted
+
+  pub sheet-written : (text : List ℕ) {m n : ℕ} {a b c d : List ℕ} → length (net .gates) ≡ m → length (net .pairs) ≡ n →
+      endOf rowCount ≤ length text → a ≡ sets text 0 heading → b ≡ sets a (endOf 0) (rowsFrom 0 gateRows) →
+      c ≡ sets b (endOf m) (rowsFrom m outputRows) → d ≡ sets c (endOf (m + n)) (rowsFrom (m + n) lampRows) →
+      d ≡ over (sheetOf net) text
+  unfolding sheetOf rowsFrom
+  sheet-written text {m} {n} some few room h e f g =
+      let gates = rows-onward text 0 [] gateRows refl h e in
+      let outputs = rows-onward text m gateRows outputRows (gates-counted ∙ some) gates f in
+      rows-onward text (m + n) (gateRows ++ outputRows) lampRows (outputs-counted ∙ ap₂ _+_ some few) outputs g
       ∙ sets-over (sheetOf net) text (rw sheet-end room)

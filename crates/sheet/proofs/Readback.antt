@@ -11,7 +11,7 @@ use lib.ListN.{length, getD, take, drop, length-append}
 use lib.Seq.{take-at, drop-at, drop-append-seam}
 use Rattle.fields.proofs.Every.{Every}
 use Rattle.sheet.specs.declared.row.Kind.{Kind}
-use Rattle.sheet.specs.declared.row.Kind.the-variants.{And, Or, Out}
+use Rattle.sheet.specs.declared.row.Kind.the-variants.{And, Or, Out, Lamp}
 use Rattle.sheet.specs.declared.row.Row.{Row}
 use Rattle.sheet.specs.Sheet.{rowText, headingAfter, numberedRows, rowsFrom}
 use Rattle.sheet.specs.Inner.Places.{signAt}
@@ -52,9 +52,9 @@ signs-value x h =
     )
     (digits-value x (x / 10) (x / 100) (x / 1000) (x / 10000) _ _ _ _ (omega arith) (omega arith) (omega arith) (omega arith))
 
--- The kinds differ in their third letter: D, a blank, T.
+-- The kinds differ in their third letter: D, a blank, T, P.
 abbrev kindBy : ℕ → Kind
-kindBy sign = cond (eqb sign 68) And (cond (eqb sign 32) Or Out)
+kindBy sign = cond (eqb sign 68) And (cond (eqb sign 32) Or (cond (eqb sign 84) Out Lamp))
 
 abbrev rowIn : List ℕ → Row
 rowIn l = record { number = numberIn l 0; kind = kindBy (getD l 8 0); first = numberIn l 10; second = numberIn l 16 }
@@ -70,6 +70,7 @@ read-back : (n : ℕ) (k : Kind) (a b : ℕ) → n < 100000 → a < 100000 → b
 read-back n And a b p q r = λ i. record { number = signs-value n p i; kind = And; first = signs-value a q i; second = signs-value b r i }
 read-back n Or a b p q r = λ i. record { number = signs-value n p i; kind = Or; first = signs-value a q i; second = signs-value b r i }
 read-back n Out a b p q r = λ i. record { number = signs-value n p i; kind = Out; first = signs-value a q i; second = signs-value b r i }
+read-back n Lamp a b p q r = λ i. record { number = signs-value n p i; kind = Lamp; first = signs-value a q i; second = signs-value b r i }
 
 read-row : (r : Row) → SmallRow r → rowIn (rowText r) ≡ r
 read-row r s =

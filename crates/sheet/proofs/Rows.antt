@@ -7,7 +7,7 @@ use lib.ListN.{length, length-append}
 use lib.Seq.{sets}
 use Rattle.files.proofs.Written.{onward}
 use Rattle.sheet.specs.declared.row.Kind.{Kind}
-use Rattle.sheet.specs.declared.row.Kind.the-variants.{And, Or, Out}
+use Rattle.sheet.specs.declared.row.Kind.the-variants.{And, Or, Out, Lamp}
 use Rattle.sheet.specs.declared.row.Row.{Row}
 use Rattle.sheet.specs.Sheet.{inFive, rowText}
 use Rattle.sheet.specs.Inner.Places.{kindColumn}
@@ -22,11 +22,13 @@ unfolding rowText
 columns-are n And a b = rw (in-five n, in-five a, in-five b)
 columns-are n Or a b = rw (in-five n, in-five a, in-five b)
 columns-are n Out a b = rw (in-five n, in-five a, in-five b)
+columns-are n Lamp a b = rw (in-five n, in-five a, in-five b)
 
 length-columns : (n : ℕ) (k : Kind) (a b : ℕ) → length (columns n k a b) ≡ 22
 length-columns n And a b = refl
 length-columns n Or a b = refl
 length-columns n Out a b = refl
+length-columns n Lamp a b = refl
 
 pub length-row : (r : Row) → length (rowText r) ≡ 22
 length-row r = let k = r .kind in ap length (columns-are (r .number) k (r .first) (r .second)) ∙ length-columns (r .number) k (r .first) (r .second)
@@ -35,6 +37,7 @@ length-kind : (k : Kind) → length (kindColumn k) ≡ 4
 length-kind And = refl
 length-kind Or = refl
 length-kind Out = refl
+length-kind Lamp = refl
 
 pub row-written : (l : List ℕ) (i n : ℕ) (k : Kind) (a b : ℕ) {t u v w : List ℕ} → t ≡ sets l i (inFive n ++ (32 ∷ [])) →
     u ≡ sets t (i + 6) (kindColumn k) → v ≡ sets u (i + 10) (inFive a ++ (32 ∷ [])) → w ≡ sets v (i + 16) (inFive b ++ (10 ∷ [])) →

@@ -14,10 +14,10 @@ SheetDetermines =
     (a b : List ℕ) → Bytes a → Bytes b → netlistRefusal a ≡ 0 → netlistRefusal b ≡ 0 →
     netlistIn a .contacts ≡ netlistIn b .contacts → sheetOf (netlistIn a) ≡ sheetOf (netlistIn b) → a ≡ b
 
--- A sheet has 22 bytes for each row and for the heading of every fifty; 237,160 are enough for each.
+-- A sheet has 22 bytes for each row and for the heading of every fifty; 238,128 are enough for each.
 abbrev pub SheetLength : Type 0
 SheetLength =
     (file : List ℕ) → netlistRefusal file ≡ 0 →
     let net = netlistIn file in
-    let rows = length (net .gates) + length (net .pairs) in
-    (length (sheetOf net) ≡ 22 * (rows + (rows + 49) / 50)) × (length (sheetOf net) ≤ 237160)
+    let rows = length (net .gates) + length (net .pairs) + length (net .lamp) in
+    (length (sheetOf net) ≡ 22 * (rows + (rows + 49) / 50)) × (length (sheetOf net) ≤ 238128)

@@ -1,4 +1,4 @@
-// The gate sheet of a netlist: a row for each gate and each output, in columns, under headings.
+// The gate sheet of a netlist: a row for each gate, each output and the lamp, in columns, under headings.
 mod page;
 mod row;
 mod service;

@@ -8,8 +8,8 @@ ghost use Prim.Native.Nat.{_+_, _/_, _≤_, _<_};
 ghost use lib.ListN.{length};
 ghost use lib.Seq.{sets};
 ghost use Rattle.files.specs.Room.{over};
-ghost use Rattle.netlist.specs.Netlist.{netOf, gatesOf, pairsOf, gateLine};
-ghost use Rattle.sheet.specs.Sheet.{heading, headingAfter, rowText, gateRow, outputRow, numberedRows, rowsFrom, sheetOf};
+ghost use Rattle.netlist.specs.Netlist.{gatesOf, pairsOf, gateLine, netWith};
+ghost use Rattle.sheet.specs.Sheet.{heading, headingAfter, rowText, gateRow, pairRow, numberedRows, rowsFrom, sheetOf};
 ghost use Rattle.sheet.specs.Inner.Places.{endOf, placeOf};
 
 // The length of a sheet of so many rows.
@@ -70,17 +70,17 @@ fn put_gates(text: &mut [u8], line: usize, gates: &[u8])
     }
 }
 
-// Writes the outputs' rows, below so many rows of gates.
-fn put_outputs(text: &mut [u8], before: usize, outputs: &[u8])
-    requires { ⌜ (before + length (now outputs) / 4 < 65536) × (endOf (before + length (now outputs) / 4) ≤ length (now text)) ⌝ }
+// Writes the rows of pairs, all of one kind, below so many other rows.
+fn put_pairs(text: &mut [u8], before: usize, kind: Kind, pairs: &[u8])
+    requires { ⌜ (before + length (now pairs) / 4 < 65536) × (endOf (before + length (now pairs) / 4) ≤ length (now text)) ⌝ }
     ensures { λ _. ⌜ now (text .exit)
-        ≡ sets (now (text .entry)) (endOf before) (rowsFrom before (numberedRows outputRow 0 (pairsOf (now (outputs .entry))))) ⌝ }
+        ≡ sets (now (text .entry)) (endOf before) (rowsFrom before (numberedRows (pairRow kind) 0 (pairsOf (now (pairs .entry))))) ⌝ }
 {
-    for j in 0..outputs.len() / 4 {
-        let pair = netlist::pair_at(outputs, j);
+    for j in 0..pairs.len() / 4 {
+        let pair = netlist::pair_at(pairs, j);
         let row = Row {
             number: j as u16,
-            kind: Kind::Out,
+            kind: kind,
             first: pair.on,
             second: pair.off,
         };
@@ -88,14 +88,16 @@ fn put_outputs(text: &mut [u8], before: usize, outputs: &[u8])
     }
 }
 
-// Writes the sheet of a netlist of n contacts, given the bytes of its gates and outputs, from the start of a buffer.
-pub fn put_sheet(text: &mut [u8], n: usize, gates: &[u8], outputs: &[u8])
-    requires { ⌜ (n ≤ 12) × (gateLine n + length (now gates) / 5 < 65536) × (length (now gates) / 5 + length (now outputs) / 4 < 65536) ⌝ }
-    requires { ⌜ endOf (length (now gates) / 5 + length (now outputs) / 4) ≤ length (now text) ⌝ }
+// Writes the sheet of a netlist of n contacts, given the bytes of its gates, its outputs and its lamp, from the start of a buffer.
+pub fn put_sheet(text: &mut [u8], n: usize, gates: &[u8], outputs: &[u8], lamp: &[u8])
+    requires { ⌜ (n ≤ 12) × (gateLine n + length (now gates) / 5 < 65536) ⌝ }
+    requires { ⌜ length (now gates) / 5 + length (now outputs) / 4 + length (now lamp) / 4 < 65536 ⌝ }
+    requires { ⌜ endOf (length (now gates) / 5 + length (now outputs) / 4 + length (now lamp) / 4) ≤ length (now text) ⌝ }
     ensures { λ _. ⌜ now (text .exit)
-        ≡ over (sheetOf (netOf n (now (gates .entry)) (now (outputs .entry)))) (now (text .entry)) ⌝ }
+        ≡ over (sheetOf (netWith n (gatesOf (now (gates .entry))) (pairsOf (now (outputs .entry))) (pairsOf (now (lamp .entry))))) (now (text .entry)) ⌝ }
 {
     put_heading(text, 0);
     put_gates(text, 2 + 2 * n, gates);
-    put_outputs(text, gates.len() / 5, outputs);
+    put_pairs(text, gates.len() / 5, Kind::Out, outputs);
+    put_pairs(text, gates.len() / 5 + outputs.len() / 4, Kind::Lamp, lamp);
 }

@@ -7,14 +7,15 @@ ghost use lib.Seq.{sets};
 ghost use Rattle.sheet.specs.Sheet.{inFive, kindOf, rowText};
 ghost use Rattle.sheet.specs.Inner.Places.{signAt, kindColumn};
 
-// What a row is about: a gate, AND or OR, or an output.
+// What a row is about: a gate, AND or OR, an output, or the lamp.
 pub enum Kind {
     And,
     Or,
     Out,
+    Lamp,
 }
 
-// A row: a gate's line and sources, or an output's number and its true and false line.
+// A row: a gate's line and sources, or an output's or a lamp's number and its true and false line.
 pub struct Row {
     pub number: u16,
     pub kind: Kind,
@@ -63,6 +64,7 @@ fn put_kind(text: &mut [u8], at: usize, kind: Kind)
         Kind::And => files::copy(text, at, b"AND "),
         Kind::Or => files::copy(text, at, b"OR  "),
         Kind::Out => files::copy(text, at, b"OUT "),
+        Kind::Lamp => files::copy(text, at, b"LMP "),
     }
 }
 

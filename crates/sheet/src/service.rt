@@ -17,11 +17,12 @@ pub fn sheet(netlist: &[u8], text: &mut [u8]) -> Written
     }
     let gates = fields::value(netlist, parts.gates);
     let outputs = fields::value(netlist, parts.outputs);
-    let length = page::length_of(gates.len() / 5 + outputs.len() / 4);
+    let lamp = fields::value(netlist, parts.lamp);
+    let length = page::length_of(gates.len() / 5 + outputs.len() / 4 + lamp.len() / 4);
     let Room::Enough = files::ask_room(length, text.len()) else {
         return files::refused(9);
     };
-    page::put_sheet(text, parts.contacts, gates, outputs);
+    page::put_sheet(text, parts.contacts, gates, outputs, lamp);
     Written {
         refusal: 0,
         length: length as u32,

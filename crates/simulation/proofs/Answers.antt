@@ -23,22 +23,22 @@ use Rattle.simulation.specs.Inner.Walk.{Ready}
 use Rattle.netlist.proofs.Tests.{pairs-at, in-pair}
 
 -- The yes of each question.
-pub driven : (n : ℕ) (rails : List ℕ) → railsOf n rails ≡ Driven → length rails ≡ 2 * n
-driven n rails = go (eqb (length rails) (2 * n)) (all (2 * n) (isBit rails)) refl
+driven-by : (n : ℕ) (rails : List ℕ) → railsOf n rails ≡ Driven → (eqb (length rails) (2 * n) ≡ true) × (all (2 * n) (isBit rails) ≡ true)
+driven-by n rails = go (eqb (length rails) (2 * n)) (all (2 * n) (isBit rails))
   where
-    go : (a b : Bool) → eqb (length rails) (2 * n) ≡ a → cond (a && b) Driven Undriven ≡ Driven → length rails ≡ 2 * n
-    go true b t e = eqb-true _ _ t
-    go false b t e = absurd (let z : _≡_ {A = ℕ} 0 1 = cc in omega arith)
+    go : (a b : Bool) → cond (a && b) Driven Undriven ≡ Driven → (a ≡ true) × (b ≡ true)
+    go true true e = (refl, refl)
+    go true false e = absurd (let z : _≡_ {A = ℕ} 0 1 = cc in omega arith)
+    go false b e = absurd (let z : _≡_ {A = ℕ} 0 1 = cc in omega arith)
+
+pub driven : (n : ℕ) (rails : List ℕ) → railsOf n rails ≡ Driven → length rails ≡ 2 * n
+driven n rails e = eqb-true _ _ (driven-by n rails e .0)
 
 pub driven-bits : (n : ℕ) (rails : List ℕ) → railsOf n rails ≡ Driven → (i : ℕ) → getD rails i 0 ≤ 1
 driven-bits n rails e i =
-    by-cases (decLt i (2 * n)) (λ l. leb-true _ _ (all-at (isBit rails) (2 * n) (go (eqb (length rails) (2 * n)) (all (2 * n) (isBit rails)) e) i l))
-    (λ g. rw (List·getD-eq-default rails 0 (let h : length rails ≤ i = omega (arith, driven n rails e) in h)) (omega arith))
-  where
-    go : (a b : Bool) → cond (a && b) Driven Undriven ≡ Driven → b ≡ true
-    go true true e = refl
-    go true false e = absurd (let z : _≡_ {A = ℕ} 0 1 = cc in omega arith)
-    go false b e = absurd (let z : _≡_ {A = ℕ} 0 1 = cc in omega arith)
+    let count = driven n rails e in
+    by-cases (decLt i (2 * n)) (λ l. leb-true _ _ (all-at (isBit rails) (2 * n) (driven-by n rails e .1) i l))
+    (λ past. let none : getD rails i 0 ≡ 0 = List·getD-eq-default rails 0 (omega arith) in omega arith)
 
 pub ordered : (lines : ℕ) (holds : List ℕ) → orderOf lines holds ≡ Ordered → areHolds lines holds ≡ true
 unfolding areOrdered
@@ -50,7 +50,7 @@ ordered lines holds = go (eqb (length holds % 3) 0) (areHolds lines holds)
     go false b e = absurd (let z : _≡_ {A = ℕ} 0 1 = cc in omega arith)
 
 -- What is worked out from is ready after the questions.
-pub ready : {file : List ℕ} {n : ℕ} {gates outputs : List ℕ} (rails holds : List ℕ) (room : ℕ) → Opened file n gates outputs →
+pub ready : {file : List ℕ} {n : ℕ} {gates outputs lamp : List ℕ} (rails holds : List ℕ) (room : ℕ) → Opened file n gates outputs lamp →
     railsOf n rails ≡ Driven → orderOf (gateLine n + length gates / 5) holds ≡ Ordered →
     roomOf (gateLine n + length gates / 5) room ≡ Enough → Ready gates rails holds room
 ready {n = n} {gates = gates} rails holds room p r o e =

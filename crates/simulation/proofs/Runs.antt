@@ -34,7 +34,7 @@ module _ {A : Type 0} (r : Rule A) where
       sym (take-take (length vs) (length s) (workOut r ds s) (omega (arith, length-append vs (x ∷ []))))
       ∙ ap (take (length vs)) (run-take ds s) ∙ take-append-seam vs (x ∷ [])
 
-  -- Pairwise further value is what its line shows of what its driver makes of the values before it.
+  -- Each further value is what its line shows of what its driver makes of the values before it.
   pub run-at : (ds : List (Driver A)) (vs : List A) (i : ℕ) (e : A) (d : Driver A) → i < length ds →
       getD (workOut r ds vs) (length vs + i) e
       ≡ r .shows (length vs + i) (drive r (take (length vs + i) (workOut r ds vs)) (getD ds i d))

@@ -1,11 +1,11 @@
 -- What one more turn of each loop of a run adds: a rail's value, a gate's value, an output's pair.
-use native.Mathlib.Numerals.{add-one}
+use native.Mathlib.Numerals.{add-one, towards-suc}
 use native.Mathlib.Omega.{arith}
 use Prim.Native.Nat.{ℕ, suc, _+_, _*_, _/_, _≤_, _<_}
 use mathlib.Core.Path.{_≡_, refl, sym, ap, ap₂, _∙_}
 use mathlib.Core.List.{List, [], _∷_, _++_, map, map-append, flatMap}
-use lib.ListN.{length, getD, take, set, length-append, length-map}
-use lib.Seq.{length-take-le, take-length, take-suc}
+use lib.ListN.{length, getD, take, set, length-map}
+use lib.Seq.{sets, length-take-le, take-length, take-suc}
 use Rattle.netlist.specs.declared.Gate.{Gate}
 use Rattle.netlist.specs.declared.Pair.{Pair}
 use Rattle.netlist.specs.declared.Hold.{Hold}
@@ -16,7 +16,8 @@ use Rattle.files.specs.Room.{over}
 use Rattle.fields.proofs.Listed.{length-listed, listed-more}
 use Rattle.netlist.proofs.Tests.{GateOn, PairIn}
 use Rattle.simulation.proofs.Writes.{worked, source, one-more}
-use Rattle.files.proofs.Buffers.{over-at, over-set}
+use Rattle.files.proofs.Buffers.{over-at}
+use Rattle.files.proofs.Written.{onward}
 
 module _ (holds : List Hold) (rails buffer : List ℕ) (room : 2 + length rails ≤ length buffer) where
   -- The buffer after i rails.
@@ -74,7 +75,7 @@ module _ (values : List ℕ) where
   length-shown (p ∷ ps) = omega (arith, length-shown ps)
 
   shown-more : (ps : List Pair) (p : Pair) →
-      shownOf (ps ++ (p ∷ [])) values ≡ (shownOf ps values ++ (getD values (p .on) 0 ∷ [])) ++ (getD values (p .off) 0 ∷ [])
+      shownOf (ps ++ (p ∷ [])) values ≡ shownOf ps values ++ (getD values (p .on) 0 ∷ getD values (p .off) 0 ∷ [])
   unfolding shownOf flatMap
   shown-more [] p = refl
   shown-more (q ∷ ps) p = ap (λ (l : List ℕ). getD values (q .on) 0 ∷ getD values (q .off) 0 ∷ l) (shown-more ps p)
@@ -92,29 +93,23 @@ shown-over values buffer d (p ∷ ps) h =
       shown-over values buffer d ps (λ j l. h (suc j) (omega arith)),
     )
 
-module _ (outputs values buffer : List ℕ) (room : 2 * (length outputs / 4) ≤ length buffer) where
+module _ (outputs values buffer : List ℕ) (before : ℕ) where
   -- The buffer after j outputs.
   abbrev pub paired : ℕ → List ℕ
-  paired j = over (shownOf (listed (pairAt outputs) j 0) values) buffer
+  paired j = sets buffer (2 * before) (shownOf (listed (pairAt outputs) j 0) values)
 
-  pub pair-more : (j : ℕ) {pairs : List ℕ} {p : Pair} → j < length outputs / 4 → pairs ≡ paired j → p ≡ pairAt outputs j →
-      set (set pairs (2 * j) (getD values (p .on) 0)) (2 * j + 1) (getD values (p .off) 0) ≡ paired (j + 1)
-  pair-more j {p = p} h e q =
+  pub pair-more : (j : ℕ) {pairs : List ℕ} {p : Pair} {at : ℕ} → pairs ≡ paired j → p ≡ pairAt outputs j → at ≡ 2 * (before + j) →
+      set (set pairs at (getD values (p .on) 0)) (at + 1) (getD values (p .off) 0) ≡ paired (j + 1)
+  pair-more j {pairs} {p} {at} e q i =
       let ps = listed (pairAt outputs) j 0 in
-      let ws = shownOf ps values in
-      let a = getD values (p .on) 0 in
-      let b = getD values (p .off) 0 in
-      let l : 2 * j ≡ length ws = omega (arith, length-shown values ps, length-listed (pairAt outputs) j 0) in
-      let m : 2 * j + 1 ≡ length (ws ++ (a ∷ [])) = omega (arith, length-append ws (a ∷ [])) in
-      ap (λ (s : List ℕ). set (set s (2 * j) a) (2 * j + 1) b) e
-      ∙ ap (λ (k : ℕ). set (set (over ws buffer) k a) (2 * j + 1) b) l
-      ∙ ap (λ (s : List ℕ). set s (2 * j + 1) b) (over-set ws buffer a (omega arith))
-      ∙ ap (λ (k : ℕ). set (over (ws ++ (a ∷ [])) buffer) k b) m
-      ∙ over-set (ws ++ (a ∷ [])) buffer b (omega arith)
-      ∙ ap (λ (s : List ℕ). over s buffer)
+      let two : List ℕ = getD values (p .on) 0 ∷ getD values (p .off) 0 ∷ [] in
+      let one : set (set pairs at (getD values (p .on) 0)) (at + 1) (getD values (p .off) 0) ≡ sets pairs at two = simp towards-suc in
+      onward buffer (2 * before) (shownOf ps values) two e one
+      (omega (arith, length-shown values ps, length-listed (pairAt outputs) j 0))
+      ∙ ap (sets buffer (2 * before))
       (sym (ap (λ (qs : List Pair). shownOf qs values) (listed-more (pairAt outputs) j ∙ ap (λ (r : Pair). ps ++ (r ∷ [])) (sym q))
       ∙ shown-more values ps p))
 
-  pub pairs-done : (j : ℕ) → j ≡ length outputs / 4 → paired j ≡ over (shownOf (pairsOf outputs) values) buffer
+  pub pairs-done : (j : ℕ) → j ≡ length outputs / 4 → paired j ≡ sets buffer (2 * before) (shownOf (pairsOf outputs) values)
   unfolding pairsOf
   pairs-done j e = ap paired e

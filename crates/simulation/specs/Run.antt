@@ -50,9 +50,10 @@ driversOf rails gates = map rail rails ++ map gate gates
 unfoldable pub valuesOf : Netlist → List ℕ → List Hold → List ℕ
 valuesOf net rails holds = workOut (holding holds) (driversOf rails (net .gates)) (0 ∷ 1 ∷ [])
 
--- Each output's pair: the values of its true and its false line.
+-- Each pair: the values of its true and its false line.
 unfoldable pub shownOf : List Pair → List ℕ → List ℕ
 shownOf pairs vs = flatMap (λ (p : Pair). getD vs (p .on) 0 ∷ getD vs (p .off) 0 ∷ []) pairs
 
+-- Each output's pair, and last the lamp's.
 abbrev pub shownBy : Netlist → List ℕ → List ℕ
-shownBy net vs = shownOf (net .pairs) vs
+shownBy net vs = shownOf (net .pairs) vs ++ shownOf (net .lamp) vs

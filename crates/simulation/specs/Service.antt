@@ -1,5 +1,5 @@
 -- The service run: what it returns and writes.
-use Prim.Native.Nat.{ℕ, zero, suc, _*_}
+use Prim.Native.Nat.{ℕ, zero, suc, _+_, _*_}
 use mathlib.Core.List.{List, [], _∷_}
 use lib.ListN.{length}
 use Rattle.fields.specs.Refusals.{firstNo}
@@ -23,10 +23,10 @@ runRefusal file rails holds lines pairs =
     ∷ railsNumber (railsOf (net .contacts) rails)
     ∷ holdsNumber (orderOf (lineCount net) holds)
     ∷ roomNumber (roomOf (lineCount net) lines)
-    ∷ roomNumber (roomOf (2 * length (net .pairs)) pairs)
+    ∷ roomNumber (roomOf (2 * (length (net .pairs) + length (net .lamp))) pairs)
     ∷ [])
 
--- Every line's value to the first buffer and two bytes an output to the second; a refusal leaves both as they came.
+-- Every line's value to the first buffer, and two bytes an output and a lamp to the second; a refusal leaves both as they came.
 abbrev pub ranOr : ℕ → Netlist → List ℕ → List ℕ → List ℕ → List ℕ → Ran
 ranOr zero net rails holds lines pairs =
     let values = valuesOf net rails (holdsOf holds) in

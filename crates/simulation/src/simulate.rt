@@ -7,6 +7,7 @@ ghost use mathlib.Core.Bool.{true};
 ghost use mathlib.Core.List.{_∷_, [], map};
 ghost use Prim.Native.Nat.{_+_, _*_, _/_, _≤_};
 ghost use lib.ListN.{length};
+ghost use lib.Seq.{sets};
 ghost use Rattle.netlist.specs.Netlist.{gatesOf, pairsOf, holdsOf};
 ghost use Rattle.simulation.specs.Run.{rail, gate, gateOf, held, holding, driversOf, workOut, shownOf};
 ghost use Rattle.netlist.specs.Questions.{areGates, arePairs};
@@ -123,22 +124,23 @@ pub fn work_out(gates: &[u8], rails: &[u8], holds: &[u8], lines: &mut [u8])
     put_gates(gates, holds, 2 + rails.len(), waiting, lines);
 }
 
-// Writes each output's pair, true rail first.
-pub fn show_pairs(outputs: &[u8], lines: &[u8], pairs: &mut [u8])
+// Writes each output's pair, true rail first, behind so many others.
+fn show_pairs(outputs: &[u8], lines: &[u8], before: usize, pairs: &mut [u8])
     requires { ⌜ arePairs (length (now lines)) (now outputs) ≡ true ⌝ }
-    requires { ⌜ 2 * (length (now outputs) / 4) ≤ length (now pairs) ⌝ }
+    requires { ⌜ 2 * (before + length (now outputs) / 4) ≤ length (now pairs) ⌝ }
     ensures { λ _. ⌜ now (pairs .exit)
-        ≡ over (shownOf (pairsOf (now (outputs .entry))) (now (lines .entry))) (now (pairs .entry)) ⌝ }
+        ≡ sets (now (pairs .entry)) (2 * before) (shownOf (pairsOf (now (outputs .entry))) (now (lines .entry))) ⌝ }
 {
     for j in 0..outputs.len() / 4 {
         let pair = netlist::pair_at(outputs, j);
-        pairs[2 * j] = lines[pair.on as usize];
-        pairs[2 * j + 1] = lines[pair.off as usize];
+        let at = 2 * (before + j);
+        pairs[at] = lines[pair.on as usize];
+        pairs[at + 1] = lines[pair.off as usize];
     }
 }
 
 // Works out every line's value with lines held: to the first buffer every line's value, from line 0 up, to the second two
-// bytes an output. A refusal leaves both as they came.
+// bytes an output and, last, two for the lamp. A refusal leaves both as they came.
 pub fn run(netlist: &[u8], rails: &[u8], holds: &[u8], lines: &mut [u8], pairs: &mut [u8]) -> u32
     ensures { λ r. ⌜ record { refusal = r; lines = now (lines .exit); pairs = now (pairs .exit) }
         ≡ runOf (now (netlist .entry)) (now (rails .entry)) (now (holds .entry)) (now (lines .entry)) (now (pairs .entry)) ⌝ }
@@ -151,6 +153,7 @@ pub fn run(netlist: &[u8], rails: &[u8], holds: &[u8], lines: &mut [u8], pairs: 
     let n = parts.contacts;
     let gates = fields::value(netlist, parts.gates);
     let outputs = fields::value(netlist, parts.outputs);
+    let lamp = fields::value(netlist, parts.lamp);
     let Rails::Driven = netlist::ask_rails(n, rails) else {
         return 13;
     };
@@ -161,10 +164,12 @@ pub fn run(netlist: &[u8], rails: &[u8], holds: &[u8], lines: &mut [u8], pairs: 
     let Room::Enough = files::ask_room(count, lines.len()) else {
         return 9;
     };
-    let Room::Enough = files::ask_room(2 * (outputs.len() / 4), pairs.len()) else {
+    let shown = outputs.len() / 4;
+    let Room::Enough = files::ask_room(2 * (shown + lamp.len() / 4), pairs.len()) else {
         return 9;
     };
     work_out(gates, rails, holds, lines);
-    show_pairs(outputs, lines, pairs);
+    show_pairs(outputs, lines, 0, pairs);
+    show_pairs(lamp, lines, shown, pairs);
     0
 }

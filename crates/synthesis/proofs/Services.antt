@@ -1,8 +1,8 @@
 -- What check and build return and leave, by the table's refusal and the room in the lent buffer.
 use Prim.Native.Nat.{ℕ, zero, suc, _+_, _*_, _≤_}
 use native.Mathlib.Omega.{arith}
-use mathlib.Core.Path.{_≡_, refl, sym, ap, ap₂, _∙_}
-use mathlib.Core.Bool.{true}
+use mathlib.Core.Path.{_≡_, refl, sym, ap, _∙_}
+use mathlib.Core.Bool.{Bool, true}
 use mathlib.Core.List.{List, [], flatMap}
 use lib.ListN.{length, getD, take}
 use lib.Seq.{sets}
@@ -13,22 +13,20 @@ use Rattle.table.specs.Table.{tableRefusal, diagramIn}
 use Rattle.table.specs.Inner.Read.{tableOf}
 use Rattle.table.proofs.Tables.{table-refusal, table-accepted, table-diagram}
 use Rattle.netlist.specs.declared.Gate.{Gate}
-use Rattle.files.specs.declared.room.Room.the-variants.{Enough, Short}
-use Rattle.netlist.specs.Netlist.{Netlist, gateLine, gateAt, gateBytes, pairBytes, netWith, fileOf, fileWith}
+use Rattle.netlist.specs.Netlist.{Netlist, gateLine, gateAt, gateBytes, pairBytes, netWith, fileOf}
 use Rattle.fields.specs.Bounded.{listed}
-use Rattle.files.specs.Room.{over, roomOf}
 use Rattle.netlist.proofs.Files.{file-length, length-gate-bytes, length-pair-bytes}
 use Rattle.synthesis.specs.declared.service.Checked.{Checked}
 use Rattle.rules.specs.Board.{boardOf, depthsOf, depthOf, tableBoard}
-use Rattle.synthesis.specs.Service.{checkedOr, checkedOf, buildingOf}
+use Rattle.synthesis.specs.Service.{checkedOr, checkedOf}
+use Rattle.synthesis.specs.Inner.Boards.{boardWith}
 use Rattle.rules.proofs.Bounds.{sized-narrow, gates-most}
 use Rattle.depths.specs.Inner.Depths.{SourcesBelow}
 use Rattle.products.proofs.Cells.{listed-from}
 use Rattle.rules.proofs.Depths.{depth-most}
 use Rattle.synthesis.proofs.Files.{gates-read}
-use Rattle.netlist.proofs.Written.{file-of}
 use Rattle.files.proofs.Buffers.{taken-back}
-use Rattle.files.proofs.Writing.{Writes, refused-before, too-short, written-whole}
+use Rattle.files.proofs.Writing.{Writes, refused-before}
 use Rattle.rules.proofs.Makes.{anyGate}
 use Rattle.rules.proofs.Pairs.{pairs-length}
 use Rattle.rules.proofs.Wired.{gates-wired}
@@ -46,9 +44,9 @@ refused-check : (k : ℕ) (net : Netlist) → (k ≡ 0 → ⊥) →
 refused-check zero net h = absurd (h refl)
 refused-check (suc k) net h = refl
 
--- What build returns, and what it leaves in the buffer.
-abbrev pub Builds : List ℕ → List ℕ → ℕ → ℕ → List ℕ → Type 0
-Builds table buffer k n after = record { refusal = k; length = n; buffer = after } ≡ buildingOf table buffer
+-- What a build with a lamp or without returns, and what it leaves in the buffer.
+abbrev pub Builds : List ℕ → Bool → List ℕ → ℕ → ℕ → List ℕ → Type 0
+Builds table lamp buffer k n after = Writes (fileOf (boardWith lamp (diagramIn table))) buffer (tableRefusal table) k n after
 
 module _ (table : List ℕ) {t : Table} (e : t ≡ tableOf table) where
   refusal-is : t .refusal ≡ tableRefusal table
@@ -74,10 +72,10 @@ module _ (table : List ℕ) {t : Table} (e : t ≡ tableOf table) where
   check-refused h =
       refused-check (t .refusal) (tableBoard table) h ∙ ap (λ (k : ℕ). checkedOr k (tableBoard table)) refusal-is
 
-  pub build-refused : (buffer : List ℕ) {k n : ℕ} → (t .refusal ≡ 0 → ⊥) → (k ≡ t .refusal) × (n ≡ 0) → Builds table buffer k n buffer
-  unfolding buildingOf
-  build-refused buffer h a =
-      rw (← refusal-is) (refused-before (fileOf (tableBoard table)) buffer h a)
+  pub build-refused : (lamp : Bool) (buffer : List ℕ) {k n : ℕ} → (t .refusal ≡ 0 → ⊥) → (k ≡ t .refusal) × (n ≡ 0) →
+      Builds table lamp buffer k n buffer
+  build-refused lamp buffer h a =
+      rw (← refusal-is) (refused-before (fileOf (boardWith lamp (diagramIn table))) buffer h a)
 
 -- The board of a diagram, made in buffers with room for it.
 module _ (d : Diagram) (sized : Sized d) {made : ℕ} (count : made ≡ length (boardOf d .gates)) where
@@ -101,10 +99,10 @@ module _ (d : Diagram) (sized : Sized d) {made : ℕ} (count : made ≡ length (
         }
 
     module _ {depth : ℕ}
-        (e : depth ≡ depthOf (netWith (d .contacts) (listed (gateAt gates) made 0) [])) where
+        (e : depth ≡ depthOf (netWith (d .contacts) (listed (gateAt gates) made 0) [] [])) where
       depth-is : depth ≡ depthOf (boardOf d)
       unfolding boardOf depthOf depthsOf
-      depth-is = e ∙ ap (λ (gs : List Gate). depthOf (netWith (d .contacts) gs [])) gates-are
+      depth-is = e ∙ ap (λ (gs : List Gate). depthOf (netWith (d .contacts) gs [] [])) gates-are
 
       pub depth-low : depth ≤ 16
       depth-low = rw depth-is (depth-most d (sized .contacts .0) (sized .contacts .1) (sized-narrow d sized))
@@ -128,31 +126,13 @@ module _ (d : Diagram) (sized : Sized d) {made : ℕ} (count : made ≡ length (
       let few = sized .outputs in
       rw e (taken-back _ room (omega arith) (4 * d .outputs) (omega arith))
 
-  -- The file's length, and the file itself.
+  -- The file's length.
   pub length-is : 10 + 5 * made + 4 * d .outputs ≡ length (fileOf (boardOf d))
+  unfolding boardOf
   length-is =
       let l = file-length (boardOf d) in
       let p = pairs-length d in
       omega arith
-
-  pub file-is : (room space : List ℕ) {gates pairs : List ℕ} → 5 * length (boardOf d .gates) ≤ length room → 32 ≤ length space →
-      gates ≡ sets room 0 (flatMap gateBytes (boardOf d .gates)) →
-      pairs ≡ sets space 0 (flatMap pairBytes (boardOf d .pairs)) →
-      fileWith (d .contacts) (take (5 * made) gates) (take (4 * d .outputs) pairs) ≡ fileOf (boardOf d)
-  unfolding boardOf
-  file-is room space wide ample g p =
-      ap₂ (fileWith (d .contacts)) (taken-gates room wide g) (taken-pairs space ample p) ∙ file-of (boardOf d)
-
-  module _ (buffer : List ℕ) where
-    pub write-short : {k n : ℕ} → (k ≡ 9) × (n ≡ 0) → roomOf (10 + 5 * made + 4 * d .outputs) (length buffer) ≡ Short →
-        Writes (fileOf (boardOf d)) buffer 0 k n buffer
-    write-short a e = too-short (fileOf (boardOf d)) buffer (rw length-is at e) a
-
-    pub write-done : {after whole : List ℕ} → whole ≡ fileOf (boardOf d) →
-        roomOf (10 + 5 * made + 4 * d .outputs) (length buffer) ≡ Enough → after ≡ over whole buffer →
-        Writes (fileOf (boardOf d)) buffer 0 0 (10 + 5 * made + 4 * d .outputs) after
-    write-done w e a =
-        written-whole (fileOf (boardOf d)) buffer (rw length-is at e) length-is (a ∙ ap (λ (ws : List ℕ). over ws buffer) w)
 
 -- Once the table has its yes, the answers are those of its diagram's board.
 module _ {table : List ℕ} {d : Diagram} (u : Unrefused table d) where
@@ -163,7 +143,6 @@ module _ {table : List ℕ} {d : Diagram} (u : Unrefused table d) where
   unfolding checkedOf
   check-done e = e ∙ ap (checkedOr 0) board-is ∙ ap (λ (k : ℕ). checkedOr k (tableBoard table)) (sym (u .yes))
 
-  pub build-done : (buffer : List ℕ) {k n : ℕ} {after : List ℕ} → Writes (fileOf (boardOf d)) buffer 0 k n after →
-      Builds table buffer k n after
-  unfolding buildingOf
-  build-done buffer w = rw (u .yes, ← board-is) w
+  pub build-done : (lamp : Bool) (buffer : List ℕ) {k n : ℕ} {after : List ℕ} → Writes (fileOf (boardWith lamp d)) buffer 0 k n after →
+      Builds table lamp buffer k n after
+  build-done lamp buffer w = rw (u .yes, ← u .is) w

@@ -1,1 +1,2 @@
 pub mod Service
+pub mod Inner

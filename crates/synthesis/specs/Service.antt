@@ -1,4 +1,4 @@
--- The services check and build: what each returns, and the bytes that build leaves.
+-- The services check, build and build with lamp: what each returns, and the bytes that a build leaves.
 use Prim.Native.Nat.{ℕ, zero, suc}
 use mathlib.Core.List.{List}
 use lib.ListN.{length}
@@ -7,6 +7,7 @@ use Rattle.netlist.specs.Netlist.{Netlist, fileOf}
 use Rattle.files.specs.Room.{Writing, writingOf}
 use Rattle.synthesis.specs.declared.service.Checked.{Checked}
 use Rattle.rules.specs.Board.{tableBoard, depthOf}
+use Rattle.rules.specs.Lamp.{lampBoard}
 
 -- Check returns contacts, outputs, gates and depth, or the table's refusal with every other result zero.
 abbrev pub checkedOr : ℕ → Netlist → Checked
@@ -26,3 +27,7 @@ checkedOf table = checkedOr (tableRefusal table) (tableBoard table)
 -- Build writes the file of the table's netlist, after the table's questions.
 unfoldable pub buildingOf : List ℕ → List ℕ → Writing
 buildingOf table buffer = writingOf (tableRefusal table) (fileOf (tableBoard table)) buffer
+
+-- Build with lamp writes the file of the table's netlist with its lamp.
+unfoldable pub lampBuildingOf : List ℕ → List ℕ → Writing
+lampBuildingOf table buffer = writingOf (tableRefusal table) (fileOf (lampBoard table)) buffer

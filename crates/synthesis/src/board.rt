@@ -10,6 +10,7 @@ ghost use Rattle.diagram.specs.Questions.{Sized, inRange};
 ghost use Rattle.netlist.specs.Netlist.{gateBytes, pairBytes};
 ghost use Rattle.fields.specs.Bounded.{listed};
 ghost use Rattle.rules.specs.Board.{pairOf, boardOf};
+ghost use Rattle.rules.specs.Lamp.{lampOf, withLamp};
 ghost use Rattle.products.specs.Inner.Cells.{matrixOf};
 
 // Writes each output's true line and false line: columns 1 and 0 of its node's row.
@@ -42,6 +43,22 @@ pub fn synthesise(d: Diagram, out: &mut [u8], pairs: &mut [u8]) -> usize
     let made = blocks::block(d, 0, n, &mut cells, out, 2 + 2 * n, 0);
     put_pairs(d, &cells, pairs);
     made
+}
+
+// Writes the gates of the lamp of a diagram's board behind the board's own, so many, and the lamp's pair, four bytes, from the start
+// of its buffer, given the board's pairs. Returns the number of all gates.
+pub fn put_lamp(d: Diagram, pairs: &[u8], out: &mut [u8], made: usize, lamp: &mut [u8]) -> usize
+    requires { ⌜ Sized d × (made ≡ length (boardOf d .gates)) × (now pairs ≡ flatMap pairBytes (boardOf d .pairs)) ⌝ }
+    requires { ⌜ (5 * length (withLamp (boardOf d) .gates) ≤ length (now out)) × (4 ≤ length (now lamp)) ⌝ }
+    ensures { λ r. ⌜ r ≡ length (withLamp (boardOf d) .gates) ⌝ }
+    ensures { λ _. ⌜ now (out .exit) ≡ sets (now (out .entry)) (5 * made) (flatMap gateBytes (lampOf (boardOf d) .0)) ⌝ }
+    ensures { λ _. ⌜ now (lamp .exit) ≡ sets (now (lamp .entry)) 0 (pairBytes (lampOf (boardOf d) .1)) ⌝ }
+{
+    let m = d.outputs;
+    let pair = gates::join_tree(pairs, 0, m, out, 2 + 2 * d.contacts, made);
+    files::put_number(lamp, 0, pair.on);
+    files::put_number(lamp, 2, pair.off);
+    made + 6 * (m - 1)
 }
 
 // A number of gates that a diagram's board does not pass: the formula for its largest width; level n counts, as 2.

@@ -1,4 +1,4 @@
-// From a diagram to its two-rail netlist, gate for gate.
+// From a diagram to its two-rail netlist, gate for gate, with a lamp or without.
 mod board;
 mod service;
 
@@ -6,4 +6,5 @@ pub use board::most_gates;
 pub use board::synthesise;
 pub use service::Checked;
 pub use service::build;
+pub use service::build_with_lamp;
 pub use service::check;

@@ -39,7 +39,7 @@ fn byte(b: u8) {
 }
 
 // A buffer whose first bytes are lent, as points.
-pub type Lent = [u8; 10568];
+pub type Lent = [u8; 10610];
 
 // A text, and what is left of lent bytes from a place to another: a digit for a byte that was written, a point for one that was
 // not.
@@ -49,7 +49,7 @@ pub fn signs(line: &[u8], lent: &Lent, from: usize, to: usize) {
         text(b"none");
     }
     for i in from..to {
-        sign(lent[i % 10568]);
+        sign(lent[i % 10610]);
     }
 }
 

@@ -7,7 +7,7 @@ ghost use lib.ListN.{length};
 // The table of a drawing.
 pub fn show(drawing: &[u8], case: &[u8]) {
     let room = spelling::number(case, 1, 244);
-    let mut lent = [b'.'; 10568];
+    let mut lent = [b'.'; 10610];
     let written = drawing::from_drawing(drawing, &mut lent[0..room]);
     print::form(
         b": %, bytes %",

@@ -1,5 +1,5 @@
 // The number that a sheet gets and its length; then the bytes of the lent buffer from a place to before another, points where
-// nothing is written, or, where the sheet is refused, how many bytes of the buffer keep their values. The longest sheet has 237,160
+// nothing is written, or, where the sheet is refused, how many bytes of the buffer keep their values. The longest sheet has 238,128
 // bytes.
 use crate::runs;
 use files::Written;
@@ -9,24 +9,24 @@ ghost use Prim.Native.Nat.{_≤_};
 
 // A netlist's sheet, and what is left of the buffer behind it.
 pub fn show(netlist: &[u8], case: &[u8]) {
-    let room = spelling::number(case, 1, 237161);
+    let room = spelling::number(case, 1, 238129);
     show_part(netlist, room, 0, room);
 }
 
 // Some lines, of 22 bytes each, of the sheet of a row of gates.
 pub fn show_row(case: &[u8]) {
-    let mut file = [0u8; 52819];
+    let mut file = [0u8; 53029];
     let len = runs::put_row(case, &mut file);
-    let room = spelling::number(case, 1, 237161);
-    let to = spelling::number(case, 3, 10781);
+    let room = spelling::number(case, 1, 238129);
+    let to = spelling::number(case, 3, 10825);
     let from = spelling::number(case, 2, to + 1);
     show_part(&file[0..len], room, 22 * from, 22 * to);
 }
 
 fn show_part(netlist: &[u8], room: usize, from: usize, to: usize)
-    requires { ⌜ (room ≤ 237160) × (from ≤ to) × (to ≤ 237160) ⌝ }
+    requires { ⌜ (room ≤ 238128) × (from ≤ to) × (to ≤ 238128) ⌝ }
 {
-    let mut lent = [b'.'; 237160];
+    let mut lent = [b'.'; 238128];
     let written = sheet::sheet(netlist, &mut lent[0..room]);
     let refusal = written.refusal;
     show_written(written);
@@ -47,8 +47,8 @@ fn show_written(written: Written) {
     );
 }
 
-fn part(lent: &[u8; 237160], from: usize, to: usize) -> &[u8]
-    requires { ⌜ (from ≤ to) × (to ≤ 237160) ⌝ }
+fn part(lent: &[u8; 238128], from: usize, to: usize) -> &[u8]
+    requires { ⌜ (from ≤ to) × (to ≤ 238128) ⌝ }
 {
     let all = &lent[..];
     &all[from..to]

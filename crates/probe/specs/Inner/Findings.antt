@@ -3,7 +3,7 @@
 use Prim.Native.Nat.{ℕ, _+_, _/_, _≤_}
 use mathlib.Core.Path.{_≡_}
 use mathlib.Core.Bool.{true}
-use mathlib.Core.List.{List, _++_}
+use mathlib.Core.List.{List, [], _++_}
 use lib.ListN.{length}
 use Rattle.diagram.specs.declared.Diagram.{Diagram}
 use Rattle.table.specs.Promises.{Accepted}
@@ -48,4 +48,4 @@ pub record FoundAndWritten (n : ℕ) (gates pairs hold buffer : List ℕ) (answe
       answer ≡ foundAt (pairsOf pairs) input (stuckAt (netOf n gates pairs) (holdAt hold 0) input)
   pub written :
       let input = smallestInput (netOf n gates pairs) (holdAt hold 0) in
-      left ≡ over (fileWith n gates pairs ++ stuckAt (netOf n gates pairs) (holdAt hold 0) input) buffer
+      left ≡ over (fileWith n gates pairs [] ++ stuckAt (netOf n gates pairs) (holdAt hold 0) input) buffer

@@ -3,7 +3,7 @@ use borrow.Author.Needs.{needs}
 use borrow.Author.Tests.{not-true, not-false}
 use mathlib.Core.Path.{sym, ap, _∙_}
 use Rattle.files.specs.Header.{hasParts}
-use Rattle.netlist.proofs.Forms.{broken, uncounted, gates-misparted, outputs-misparted, too-many, formed}
+use Rattle.netlist.proofs.Forms.{broken, uncounted, gates-misparted, outputs-misparted, misended, formed}
 use Rattle.netlist.proofs.form.ask_form.Statement.{statement}
 use Rattle.netlist.proofs.form.ask_form.Tie as tie
 
@@ -39,7 +39,7 @@ has-parts-requires c κs = search needs
 
 returns-3 : tie.Need-returns-3
 returns-3 c =
-    gates-misparted _ (ap (hasParts 4 5 0 10560) (sym (c .before .before .field-at .ensures)) ∙ sym (c .before .has-parts .ensures) ∙ not-true _ (c .if1 .taken))
+    gates-misparted _ (ap (hasParts 4 5 0 10602) (sym (c .before .before .field-at .ensures)) ∙ sym (c .before .has-parts .ensures) ∙ not-true _ (c .if1 .taken))
 
 field-at-requires-2 : tie.Need-field-at-requires-2
 field-at-requires-2 c κs = search needs
@@ -51,11 +51,11 @@ returns-4 : tie.Need-returns-4
 returns-4 c =
     outputs-misparted _ (ap (hasParts 5 4 1 8) (sym (c .before .before .field-at2 .ensures)) ∙ sym (c .before .has-parts2 .ensures) ∙ not-true _ (c .if2 .taken))
 
-at-most-requires : tie.Need-at-most-requires
-at-most-requires c κs = search needs
+ends-in-lamp-requires : tie.Need-ends-in-lamp-requires
+ends-in-lamp-requires c κs = search needs
 
 returns-5 : tie.Need-returns-5
-returns-5 c = too-many _ (sym (c .before .at-most .ensures) ∙ not-true _ (c .if3 .taken))
+returns-5 c = misended _ (sym (c .before .ends-in-lamp .ensures) ∙ not-true _ (c .if3 .taken))
 
 returns-6 : tie.Need-returns-6
 returns-6 c =
@@ -65,9 +65,9 @@ returns-6 c =
     let whole = count .before .before .before in
     formed _ (sym (whole .before .before .whole .ensures) ∙ whole .enum-told .given .1)
     (sym (count .before .before .count-contacts .ensures) ∙ count .n .given .1)
-    (ap (hasParts 4 5 0 10560) (sym (gates .before .before .field-at .ensures)) ∙ sym (gates .before .has-parts .ensures) ∙ not-false _ (gates .if1 .left))
+    (ap (hasParts 4 5 0 10602) (sym (gates .before .before .field-at .ensures)) ∙ sym (gates .before .has-parts .ensures) ∙ not-false _ (gates .if1 .left))
     (ap (hasParts 5 4 1 8) (sym (outputs .before .before .field-at2 .ensures)) ∙ sym (outputs .before .has-parts2 .ensures) ∙ not-false _ (outputs .if2 .left))
-    (sym (c .before .at-most .ensures) ∙ not-false _ (c .if3 .left))
+    (sym (c .before .ends-in-lamp .ensures) ∙ not-false _ (c .if3 .left))
 
 pub ask-form-spec : {M : Type 1} → statement M
 ask-form-spec =
@@ -87,6 +87,6 @@ ask-form-spec =
     field-at-requires-2
     has-parts-requires-2
     returns-4
-    at-most-requires
+    ends-in-lamp-requires
     returns-5
     returns-6)

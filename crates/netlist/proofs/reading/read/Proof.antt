@@ -1,7 +1,9 @@
 -- `reading::read` meets its contract: each answer is the case that the answers before it lead to.
 use borrow.Author.Needs.{needs}
 use mathlib.Core.Path.{_≡_, refl, sym, ap, _∙_}
-use Rattle.fields.specs.Fields.{Item, fieldsOf}
+use Prim.Native.Nat.{ℕ}
+use mathlib.Core.List.{List}
+use Rattle.fields.specs.Fields.{Item, fieldsOf, valueIn}
 use Rattle.netlist.specs.declared.form.Form.the-variants.{Formed}
 use Rattle.netlist.specs.Questions.{formOf}
 use Rattle.netlist.proofs.Accepted.{well-formed}
@@ -9,12 +11,15 @@ use Rattle.netlist.proofs.Opened.{unformed, unsound, sound}
 use Rattle.netlist.proofs.reading.read.Statement.{statement}
 use Rattle.netlist.proofs.reading.read.Tie as tie
 
+abbrev file : tie.After-value3 → List ℕ
+file c = c .before .before .before .before .before .before .before .before .before .before .before .args .file .now
+
 -- Once question 11 has its yes.
-form : (c : tie.After-value2) →
-    formOf (fieldsOf (c .before .before .before .before .before .before .before .before .before .args .file .now))
-    ≡ Formed (c .before .before .before .before .before .n .given .0 .0)
+form : (c : tie.After-value3) →
+    formOf (fieldsOf (file c))
+    ≡ Formed (c .before .before .before .before .before .before .before .n .given .0 .0)
 form c =
-    let known = c .before .before .before .before .before in
+    let known = c .before .before .before .before .before .before .before in
     sym (known .before .before .ask-form .ensures) ∙ known .n .given .1
 
 ask-form-requires : tie.Need-ask-form-requires
@@ -38,11 +43,17 @@ field-at-requires c κs = search needs
 field-at-requires-2 : tie.Need-field-at-requires-2
 field-at-requires-2 c κs = search needs
 
+field-at-requires-3 : tie.Need-field-at-requires-3
+field-at-requires-3 c κs = search needs
+
 value-requires : tie.Need-value-requires
 value-requires c κs = search needs
 
 value-requires-2 : tie.Need-value-requires-2
 value-requires-2 c κs = search needs
+
+value-requires-3 : tie.Need-value-requires-3
+value-requires-3 c κs = search needs
 
 ask-wiring-requires : tie.Need-ask-wiring-requires
 ask-wiring-requires c κs = well-formed _ _ (form c) .most
@@ -56,21 +67,28 @@ enum-told-3 c = search needs
 refused-requires-2 : tie.Need-refused-requires-2
 refused-requires-2 c κs = search needs
 
+-- The parts' values are those of the fields at their places.
+gates : (c : tie.After-value3) → c .before .before .value .result .now ≡ valueIn (fieldsOf (file c) .items) 1
+gates c = c .before .before .value .ensures ∙ ap (λ (i : Item). i .value) (c .before .before .before .before .before .field-at .ensures)
+
+outputs : (c : tie.After-value3) → c .before .value2 .result .now ≡ valueIn (fieldsOf (file c) .items) 2
+outputs c = c .before .value2 .ensures ∙ ap (λ (i : Item). i .value) (c .before .before .before .before .field-at2 .ensures)
+
+lamp : (c : tie.After-value3) → c .value3 .result .now ≡ valueIn (fieldsOf (file c) .items) 3
+lamp c = c .value3 .ensures ∙ ap (λ (i : Item). i .value) (c .before .before .before .field-at3 .ensures)
+
 returns-2 : tie.Need-returns-2
 returns-2 c =
     let w = c .before .before .before in
     let v = w .before in
-    unsound _ (form v) (v .before .value .ensures ∙ ap (λ (i : Item). i .value) (v .before .before .before .field-at .ensures))
-    (v .value2 .ensures ∙ ap (λ (i : Item). i .value) (v .before .before .field-at2 .ensures)) (sym (w .ask-wiring .ensures) ∙ c .before .enum-told3 .given .1)
-    (c .refused2 .ensures)
+    unsound _ (form v) (gates v) (outputs v) (lamp v) (sym (w .ask-wiring .ensures) ∙ c .before .enum-told3 .given .1) (c .refused2 .ensures)
 
 returns-3 : tie.Need-returns-3
 returns-3 c =
     let w = c .before .before in
     let v = w .before in
-    sound _ (form v) (v .before .value .ensures ∙ ap (λ (i : Item). i .value) (v .before .before .before .field-at .ensures))
-    (v .value2 .ensures ∙ ap (λ (i : Item). i .value) (v .before .before .field-at2 .ensures)) (sym (w .ask-wiring .ensures) ∙ c .enum-told2 .given .1)
-    refl refl (sym (v .before .value .ensures)) (sym (v .value2 .ensures))
+    sound _ (form v) (gates v) (outputs v) (lamp v) (sym (w .ask-wiring .ensures) ∙ c .enum-told2 .given .1)
+    refl refl (sym (v .before .before .value .ensures)) (sym (v .before .value2 .ensures)) (sym (v .value3 .ensures))
 
 pub read-spec : {M : Type 1} → statement M
 read-spec =
@@ -83,8 +101,10 @@ read-spec =
     returns
     field-at-requires
     field-at-requires-2
+    field-at-requires-3
     value-requires
     value-requires-2
+    value-requires-3
     ask-wiring-requires
     enum-told-2
     enum-told-3

@@ -1,4 +1,4 @@
--- `wiring::ask_wiring` meets its contract, by what the two tests ensure.
+-- `wiring::ask_wiring` meets its contract, by what the three tests ensure.
 use borrow.Author.Needs.{needs}
 use borrow.Author.Tests.{not-true, not-false}
 use mathlib.Core.Path.{sym, _∙_}
@@ -20,8 +20,8 @@ returns : tie.Need-returns
 unfolding isSound
 returns c = simp (sym (c .before .gates-sound .ensures) ∙ not-true _ (c .if1 .taken))
 
-add-pairs-sound : tie.Need-add-pairs-sound
-add-pairs-sound c = search needs
+add-lines : tie.Need-add-lines
+add-lines c = search needs
 
 pairs-sound-requires : tie.Need-pairs-sound-requires
 pairs-sound-requires c κs = search needs
@@ -31,13 +31,23 @@ unfolding isSound
 returns-2 c =
     simp (sym (c .before .pairs-sound .ensures) ∙ not-true _ (c .if2 .taken), and-false)
 
+pairs-sound-requires-2 : tie.Need-pairs-sound-requires-2
+pairs-sound-requires-2 c κs = search needs
+
 returns-3 : tie.Need-returns-3
 unfolding isSound
 returns-3 c =
-    let gates = c .before .before in
+    simp (sym (c .before .pairs-sound2 .ensures) ∙ not-true _ (c .if3 .taken), and-false)
+
+returns-4 : tie.Need-returns-4
+unfolding isSound
+returns-4 c =
+    let pairs = c .before .before in
+    let gates = pairs .before .before in
     simp (
       sym (gates .before .gates-sound .ensures) ∙ not-false _ (gates .if1 .left),
-      sym (c .before .pairs-sound .ensures) ∙ not-false _ (c .if2 .left),
+      sym (pairs .before .pairs-sound .ensures) ∙ not-false _ (pairs .if2 .left),
+      sym (c .before .pairs-sound2 .ensures) ∙ not-false _ (c .if3 .left),
     )
 
 pub ask-wiring-spec : {M : Type 1} → statement M
@@ -48,7 +58,9 @@ ask-wiring-spec =
     add-first
     gates-sound-requires
     returns
-    add-pairs-sound
+    add-lines
     pairs-sound-requires
     returns-2
-    returns-3)
+    pairs-sound-requires-2
+    returns-3
+    returns-4)

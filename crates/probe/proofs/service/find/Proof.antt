@@ -3,11 +3,12 @@ use borrow.Author.Needs.{needs}
 use Prim.Native.Nat.{ℕ, _+_, _-_, _/_}
 use native.Mathlib.Omega.{arith}
 use mathlib.Core.Path.{_≡_, sym, ap, ap₂, _∙_}
-use mathlib.Core.List.{List, _++_}
+use mathlib.Core.List.{List, [], _++_}
 use lib.ListN.{length, getD, take, drop}
 use Rattle.netlist.specs.declared.Hold.{Hold}
 use Rattle.netlist.specs.Netlist.{pairsOf, Netlist, gateLine, holdAt, fileWith, netOf}
 use Rattle.files.specs.Room.{over}
+use native.Mathlib.Nat.{add-zero}
 use Rattle.netlist.proofs.Written.{length-file}
 use Rattle.faults.specs.Betrayal.{stuckAt, smallestInput}
 use Rattle.probe.specs.Service.{foundAt}
@@ -44,8 +45,8 @@ part c =
     let count = gateLine (args .n) + length (args .gates .now) / 5 in
     let lines = length-lines (args .n) (args .gates .now) (args .pairs .now) (hold c) (c .before .before .search .result) in
     ap (λ (l : List ℕ). take (at + count - at) (drop at l)) (c .write-at .ensures .1)
-    ∙ read-behind (fileWith (args .n) (args .gates .now) (args .pairs .now)) (stuckAt (board c) (hold c) (c .before .before .search .result))
-    (args .buffer .now) at (at + count - at) (length-file (args .n) (args .gates .now) (args .pairs .now) ∙ sym (c .write-at .ensures .0))
+    ∙ read-behind (fileWith (args .n) (args .gates .now) (args .pairs .now) []) (stuckAt (board c) (hold c) (c .before .before .search .result))
+    (args .buffer .now) at (at + count - at) (length-file (args .n) (args .gates .now) (args .pairs .now) [] ∙ add-zero _ ∙ sym (c .write-at .ensures .0))
     (omega arith)
     ∙ ap (stuckAt (board c) (hold c)) (found c)
 
@@ -108,7 +109,7 @@ returns c =
           ∙ ap₂ (foundAt (pairsOf (args .pairs .now))) (found here) (part here);
       written =
           here .write-at .ensures .1
-          ∙ ap (λ (a : ℕ). over (fileWith (args .n) (args .gates .now) (args .pairs .now) ++ stuckAt (board here) (hold here) a) (args .buffer .now))
+          ∙ ap (λ (a : ℕ). over (fileWith (args .n) (args .gates .now) (args .pairs .now) [] ++ stuckAt (board here) (hold here) a) (args .buffer .now))
           (found here);
     }
 

@@ -1,7 +1,9 @@
 -- `service::write_at` meets its contract: the file, then the line values over the part of the buffer behind it.
 use borrow.Author.Needs.{needs}
 use native.Mathlib.Omega.{arith}
-use mathlib.Core.Path.{_≡_, refl}
+use native.Mathlib.Nat.{add-zero}
+use mathlib.Core.Path.{_≡_, refl, _∙_}
+use mathlib.Core.List.{[]}
 use lib.ListN.{length}
 use Rattle.netlist.specs.Netlist.{holdAt, fileWith, netOf}
 use Rattle.netlist.proofs.Written.{length-file}
@@ -9,6 +11,9 @@ use Rattle.faults.specs.Betrayal.{stuckAt}
 use Rattle.probe.proofs.Findings.{written-behind, lines-same}
 use Rattle.probe.proofs.service.write_at.Statement.{statement}
 use Rattle.probe.proofs.service.write_at.Tie as tie
+
+slice-aggregate-put-file : tie.Need-slice-aggregate-put-file
+slice-aggregate-put-file c = search needs
 
 put-file-requires : tie.Need-put-file-requires
 put-file-requires c κs = search needs
@@ -37,13 +42,13 @@ same-length c = search needs
 returns : tie.Need-returns
 returns c =
     let put = c .before .before .before .before .before .before in
-    let start = put .before .before .before .before .before .before in
+    let start = put .before .before .before .before .before .before .before in
     let args = start .args in
     let kept : length (put .put-file .last .0) ≡ length (args .buffer .now) = put .put-file .kept .0 in (
       refl,
-      written-behind (fileWith (args .n) (args .gates .now) (args .pairs .now))
+      written-behind (fileWith (args .n) (args .gates .now) (args .pairs .now) [])
           (stuckAt (netOf (args .n) (args .gates .now) (args .pairs .now)) (holdAt (args .hold .now) 0) (args .input)) (args .buffer .now) _ _
-          (length-file (args .n) (args .gates .now) (args .pairs .now)) refl (omega arith) kept (put .put-file .ensures)
+          (length-file (args .n) (args .gates .now) (args .pairs .now) [] ∙ add-zero _) refl (omega arith) kept (put .put-file .ensures)
           (rw (lines-same (args .n) (args .gates .now) (args .pairs .now) (holdAt (args .hold .now) 0) (args .input)) at (c .before .before .show-at .ensures)),
     )
 
@@ -51,6 +56,7 @@ pub write-at-spec : {M : Type 1} → statement M
 write-at-spec =
     tie.close
     (tie.spec
+    slice-aggregate-put-file
     put-file-requires
     add-start
     add-start-2

@@ -1,6 +1,6 @@
--- `page::put_sheet` meets its contract: the heading, the gates' rows and the outputs' rows.
+-- `page::put_sheet` meets its contract: the heading, the gates' rows, the outputs' rows and the lamp's row.
 use borrow.Author.Needs.{needs}
-use Rattle.netlist.specs.Netlist.{netOf}
+use Rattle.netlist.specs.Netlist.{gatesOf, pairsOf, netWith}
 use Rattle.netlist.proofs.Lists.{length-gates, length-pairs}
 use Rattle.sheet.proofs.Pages.{sheet-written}
 use Rattle.sheet.proofs.page.put_sheet.Statement.{statement}
@@ -18,24 +18,34 @@ add-put-gates c = search needs
 put-gates-requires : tie.Need-put-gates-requires
 put-gates-requires c κs = search needs
 
-put-outputs-requires : tie.Need-put-outputs-requires
-put-outputs-requires c κs = search needs
+put-pairs-requires : tie.Need-put-pairs-requires
+put-pairs-requires c κs = search needs
+
+add-put-pairs : tie.Need-add-put-pairs
+add-put-pairs c = search needs
+
+put-pairs-requires-2 : tie.Need-put-pairs-requires-2
+put-pairs-requires-2 c κs = search needs
 
 same-length : tie.Need-same-length
 same-length c = search needs
 
 returns : tie.Need-returns
 returns c =
-    let outputs = c .before .before in
+    let lamp = c .before .before in
+    let outputs = lamp .before .before .before .before in
     let gates = outputs .before .before .before .before in
     let heading = gates .before .before .before .before in
-    let start = heading .before .before .before .before .before in
+    let start = heading .before .before .before .before .before .before in
     let a = start .args in
     let g = a .gates .now in
     let p = a .outputs .now in
-    let counted = length-gates g in
-    sheet-written (netOf (a .n) g p) (a .text .now) (rw (counted, length-pairs p) (start .pre .1)) (heading .put-heading .ensures)
-    (gates .put-gates .ensures) (rw counted (outputs .put-outputs .ensures))
+    let l = a .lamp .now in
+    let some = length-gates g in
+    let few = length-pairs p in
+    sheet-written (netWith (a .n) (gatesOf g) (pairsOf p) (pairsOf l)) (a .text .now) some few
+    (rw (some, few, length-pairs l) (start .pre .1 .1))
+    (heading .put-heading .ensures) (gates .put-gates .ensures) (outputs .put-pairs .ensures) (lamp .put-pairs2 .ensures)
 
 pub put-sheet-spec : {M : Type 1} → statement M
 put-sheet-spec =
@@ -45,6 +55,8 @@ put-sheet-spec =
     mul-put-gates
     add-put-gates
     put-gates-requires
-    put-outputs-requires
+    put-pairs-requires
+    add-put-pairs
+    put-pairs-requires-2
     same-length
     returns)

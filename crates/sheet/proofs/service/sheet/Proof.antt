@@ -12,15 +12,22 @@ use Rattle.sheet.proofs.Outcomes.{unread, counts, short, done}
 use Rattle.sheet.proofs.service.sheet.Statement.{statement}
 use Rattle.sheet.proofs.service.sheet.Tie as tie
 
-open! : (c : tie.After-value2) →
-    Opened (c .before .before .before .before .before .before .args .netlist .now) (c .before .before .before .read .result .contacts)
-    (c .before .value .result .now) (c .value2 .result .now)
-open! c = opened _ (c .before .before .before .read .ensures) (c .before .before .if1 .left) (c .before .value .ensures) (c .value2 .ensures)
+open! : (c : tie.After-value3) →
+    Opened (c .before .before .before .before .before .before .before .args .netlist .now)
+    (c .before .before .before .before .read .result .contacts)
+    (c .before .before .value .result .now) (c .before .value2 .result .now) (c .value3 .result .now)
+open! c =
+    let gates = c .before .before in
+    opened _ (gates .before .before .read .ensures) (gates .before .if1 .left) (gates .value .ensures) (c .before .value2 .ensures)
+    (c .value3 .ensures)
 
 -- Question 9 about the sheet's own length.
 room : (c : tie.After-ask-room) →
-    roomOf (endOf (length (c .before .before .before .value .result .now) / 5 + length (c .before .before .value2 .result .now) / 4))
-    (length (c .before .before .before .before .before .before .before .before .args .text .now))
+    roomOf
+    (endOf
+    (length (c .before .before .before .before .value .result .now) / 5 + length (c .before .before .before .value2 .result .now) / 4
+    + length (c .before .before .value3 .result .now) / 4))
+    (length (c .before .before .before .before .before .before .before .before .before .args .text .now))
     ≡ c .ask-room .result
 room c = sym (rw (c .before .length-of .ensures) at (c .ask-room .ensures))
 
@@ -39,8 +46,14 @@ value-requires c κs = search needs
 value-requires-2 : tie.Need-value-requires-2
 value-requires-2 c κs = search needs
 
+value-requires-3 : tie.Need-value-requires-3
+value-requires-3 c κs = search needs
+
 add-length-of : tie.Need-add-length-of
 add-length-of c = search needs
+
+add-length-of-2 : tie.Need-add-length-of-2
+add-length-of-2 c = search needs
 
 length-of-requires : tie.Need-length-of-requires
 length-of-requires c κs = let n = counts (open! c) in (n .0, omega (arith, n .1))
@@ -69,10 +82,10 @@ put-sheet-requires c κs =
     let asked = told .before .before in
     let parted = asked .before .before in
     let n = counts (open! parted) in
-    ((few-contacts (open! parted), omega (arith, n .2), omega (arith, n .1)), enough _ _ (room asked ∙ told .enum-told .given .1))
+    ((few-contacts (open! parted), omega (arith, n .2)), (omega (arith, n .1), enough _ _ (room asked ∙ told .enum-told .given .1)))
 
-cast-t18 : tie.Need-cast-t18
-cast-t18 c =
+cast-t22 : tie.Need-cast-t22
+cast-t22 c =
     let length = c .before .before .before .before .before .before .before in
     omega (arith, length .length-of .ensures, counts (open! (length .before)) .1)
 
@@ -95,7 +108,9 @@ sheet-spec =
     returns
     value-requires
     value-requires-2
+    value-requires-3
     add-length-of
+    add-length-of-2
     length-of-requires
     ask-room-requires
     enum-told
@@ -103,6 +118,6 @@ sheet-spec =
     refused-requires-2
     returns-2
     put-sheet-requires
-    cast-t18
+    cast-t22
     same-length
     returns-3)

@@ -12,32 +12,37 @@ use Rattle.netlist.specs.declared.drive.Rails.the-variants.{Driven}
 use Rattle.netlist.specs.declared.drive.Holds.the-variants.{Ordered}
 use Rattle.netlist.specs.Netlist.{gateLine}
 use Rattle.netlist.specs.Questions.{railsOf, orderOf}
-use Rattle.netlist.proofs.Opened.{Opened, opened, few-contacts, outputs-wired}
+use Rattle.netlist.proofs.Opened.{Opened, opened, few-contacts, outputs-wired, lamp-wired}
 use Rattle.simulation.proofs.Answers.{ready, pairs-within}
 use Rattle.simulation.proofs.Outcomes.{unread, undriven, disordered, first-short, second-short, done}
 use Rattle.simulation.proofs.simulate.run.Statement.{statement}
 use Rattle.simulation.proofs.simulate.run.Tie as tie
 
 -- The values that each place of the code knows, and the answers on the way there.
-abbrev start : tie.After-value2 → tie.Start
-start c = c .before .before .before .before .before .before .before .before .before
+abbrev start : tie.After-value3 → tie.Start
+start c = c .before .before .before .before .before .before .before .before .before .before
 
-abbrev n : tie.After-value2 → ℕ
-n c = c .before .before .before .read .result .contacts
+abbrev n : tie.After-value3 → ℕ
+n c = c .before .before .before .before .read .result .contacts
 
-abbrev gates : tie.After-value2 → List ℕ
-gates c = c .before .value .result .now
+abbrev gates : tie.After-value3 → List ℕ
+gates c = c .before .before .value .result .now
 
-abbrev outputs : tie.After-value2 → List ℕ
-outputs c = c .value2 .result .now
+abbrev outputs : tie.After-value3 → List ℕ
+outputs c = c .before .value2 .result .now
 
-open! : (c : tie.After-value2) → Opened (start c .args .netlist .now) (n c) (gates c) (outputs c)
-open! c = opened _ (c .before .before .before .read .ensures) (c .before .before .if1 .left) (c .before .value .ensures) (c .value2 .ensures)
+abbrev lamp : tie.After-value3 → List ℕ
+lamp c = c .value3 .result .now
 
-few : (c : tie.After-value2) → n c ≤ 12
+open! : (c : tie.After-value3) → Opened (start c .args .netlist .now) (n c) (gates c) (outputs c) (lamp c)
+open! c =
+    opened _ (c .before .before .before .before .read .ensures) (c .before .before .before .if1 .left) (c .before .before .value .ensures)
+    (c .before .value2 .ensures) (c .value3 .ensures)
+
+few : (c : tie.After-value3) → n c ≤ 12
 few c = few-contacts (open! c)
 
-abbrev parted : tie.After-enum-told → tie.After-value2
+abbrev parted : tie.After-enum-told → tie.After-value3
 parted c = c .before .before .before
 
 railed : (c : tie.After-enum-told) → railsOf (n (parted c)) (start (parted c) .args .rails .now) ≡ Driven
@@ -46,7 +51,7 @@ railed c = sym (c .before .before .ask-rails .ensures) ∙ c .enum-told .given .
 abbrev driven : tie.After-enum-told3 → tie.After-enum-told
 driven c = c .before .before .before
 
-abbrev count : tie.After-value2 → ℕ
+abbrev count : tie.After-value3 → ℕ
 count c = gateLine (n c) + length (gates c) / 5
 
 sorted : (c : tie.After-enum-told3) → orderOf (count (parted (driven c))) (start (parted (driven c)) .args .holds .now) ≡ Ordered
@@ -63,7 +68,7 @@ abbrev enough : tie.After-enum-told7 → tie.After-enum-told5
 enough c = c .before .before .before
 
 roomy-too : (c : tie.After-enum-told7) →
-    roomOf (2 * (length (outputs (parted (driven (ordered (enough c))))) / 4))
+    roomOf (2 * (length (outputs (parted (driven (ordered (enough c))))) / 4 + length (lamp (parted (driven (ordered (enough c))))) / 4))
     (length (start (parted (driven (ordered (enough c)))) .args .pairs .now)) ≡ Enough
 roomy-too c = sym (c .before .before .ask-room2 .ensures) ∙ c .enum-told7 .given .1
 
@@ -78,6 +83,9 @@ value-requires c κs = search needs
 
 value-requires-2 : tie.Need-value-requires-2
 value-requires-2 c κs = search needs
+
+value-requires-3 : tie.Need-value-requires-3
+value-requires-3 c κs = search needs
 
 ask-rails-requires : tie.Need-ask-rails-requires
 ask-rails-requires c κs = few c
@@ -130,6 +138,9 @@ returns-4 c =
     let r = driven h in
     first-short _ _ _ _ _ (open! (parted r)) (railed r) (sorted h) (sym (c .before .before .ask-room .ensures) ∙ c .enum-told6 .given .1)
 
+add-ask-room : tie.Need-add-ask-room
+add-ask-room c = search needs
+
 mul-ask-room : tie.Need-mul-ask-room
 mul-ask-room c = search needs
 
@@ -157,17 +168,33 @@ work-out-requires c κs =
     let r = driven h in
     ready _ _ _ (open! (parted r)) (railed r) (sorted h) (roomy a)
 
+-- The lines of the netlist are among those worked out.
+within : (out : tie.After-work-out) → let f = parted (driven (ordered (enough (out .before .before)))) in
+    count f ≤ length (out .work-out .last .1 .1 .1 .0)
+within out =
+    let a = enough (out .before .before) in
+    let f = parted (driven (ordered a)) in
+    let kept : length (out .work-out .last .1 .1 .1 .0) ≡ length (start f .args .lines .now) = out .work-out .kept .1 .1 .1 .0 in
+    rw kept (buffers.enough _ _ (roomy a))
+
 show-pairs-requires : tie.Need-show-pairs-requires
 show-pairs-requires c κs =
     let out = c .before .before .before .before in
     let b = out .before .before in
-    let a = enough b in
-    let f = parted (driven (ordered a)) in
-    let kept : length (out .work-out .last .1 .1 .1 .0) ≡ length (start f .args .lines .now) = out .work-out .kept .1 .1 .1 .0 in
-    let room : count f ≤ length (start f .args .lines .now) = buffers.enough _ _ (roomy a) in (
-      pairs-within (count f) _ (outputs f) (rw kept room) (outputs-wired (open! f)),
-      buffers.enough _ _ (roomy-too b),
-    )
+    let f = parted (driven (ordered (enough b))) in
+    let room : 2 * (length (outputs f) / 4 + length (lamp f) / 4) ≤ length (start f .args .pairs .now) = buffers.enough _ _ (roomy-too b) in
+    let fits : 2 * (0 + length (outputs f) / 4) ≤ length (start f .args .pairs .now) = omega (arith, room) in
+    (pairs-within (count f) (length (out .work-out .last .1 .1 .1 .0)) (outputs f) (within out) (outputs-wired (open! f)), fits)
+
+show-pairs-requires-2 : tie.Need-show-pairs-requires-2
+show-pairs-requires-2 c κs =
+    let shown = c .before .before .before .before in
+    let out = shown .before .before .before .before .before in
+    let b = out .before .before in
+    let f = parted (driven (ordered (enough b))) in
+    let room = buffers.enough _ _ (roomy-too b) in
+    let kept : length (shown .show-pairs .last .1 .1 .1 .0) ≡ length (start f .args .pairs .now) = shown .show-pairs .kept .1 .1 .1 .0 in
+    (pairs-within (count f) (length (out .work-out .last .1 .1 .1 .0)) (lamp f) (within out) (lamp-wired (open! f)), rw kept room)
 
 same-length : tie.Need-same-length
 same-length c = search needs
@@ -177,13 +204,14 @@ same-length-2 c = search needs
 
 returns-6 : tie.Need-returns-6
 returns-6 c =
-    let out = c .before .before .before .before .before .before .before in
+    let shown = c .before .before .before .before .before .before .before in
+    let out = shown .before .before .before .before .before in
     let b = out .before .before in
     let a = enough b in
     let h = ordered a in
     let r = driven h in
     done _ _ _ _ _ (open! (parted r)) (railed r) (sorted h) (roomy a) (roomy-too b) (out .work-out .ensures)
-    (c .before .before .show-pairs .ensures)
+    (shown .show-pairs .ensures) (c .before .before .show-pairs2 .ensures)
 
 pub run-spec : {M : Type 1} → statement M
 run-spec =
@@ -193,6 +221,7 @@ run-spec =
     returns
     value-requires
     value-requires-2
+    value-requires-3
     ask-rails-requires
     enum-told
     enum-told-2
@@ -208,6 +237,7 @@ run-spec =
     enum-told-5
     enum-told-6
     returns-4
+    add-ask-room
     mul-ask-room
     ask-room-requires-2
     enum-told-7
@@ -215,6 +245,7 @@ run-spec =
     returns-5
     work-out-requires
     show-pairs-requires
+    show-pairs-requires-2
     same-length
     same-length-2
     returns-6)

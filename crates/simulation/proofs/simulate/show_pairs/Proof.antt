@@ -5,22 +5,19 @@ use Prim.Native.Nat.{_-_, _/_, _≤_}
 use mathlib.Core.Path.{_≡_, refl, _∙_}
 use mathlib.Core.List.{flatMap}
 use lib.ListN.{length, length-set}
-use Rattle.netlist.specs.Netlist.{pairAt}
 use Rattle.fields.specs.Bounded.{listed}
 use Rattle.simulation.specs.Run.{shownOf}
-use Rattle.files.specs.Room.{over}
 use Rattle.netlist.proofs.Tests.{PairIn, pairs-at}
-use Rattle.simulation.proofs.Turns.{pair-more, pairs-done}
+use Rattle.simulation.proofs.Turns.{paired, pair-more, pairs-done}
 use Rattle.simulation.proofs.simulate.show_pairs.Statement.{statement}
 use Rattle.simulation.proofs.simulate.show_pairs.Tie as tie
 
 abbrev Inv-loop : tie.InvT-loop
-Inv-loop outputs lines pairs₀ j₀ j-end pairs j =
-    (j-end ≡ length outputs / 4) × (j ≤ j-end) × (length pairs ≡ length pairs₀)
-    × (pairs ≡ over (shownOf (listed (pairAt outputs) j 0) lines) pairs₀)
+Inv-loop outputs lines before pairs₀ j₀ j-end pairs j =
+    (j-end ≡ length outputs / 4) × (j ≤ j-end) × (length pairs ≡ length pairs₀) × (pairs ≡ paired outputs lines pairs₀ before j)
 
 abbrev μ-loop : tie.MeasureT-loop
-μ-loop outputs lines pairs₀ j₀ j-end pairs j = j-end - j
+μ-loop outputs lines before pairs₀ j₀ j-end pairs j = j-end - j
 
 loop-holds : tie.Need-loop-holds Inv-loop μ-loop
 unfolding shownOf flatMap listed
@@ -38,14 +35,17 @@ within c =
     rw (c .pair-at .ensures)
     (pairs-at (length (start .args .lines .now)) (start .args .outputs .now) (start .pre .0) (loop .loop .j) (omega arith))
 
+add-at : tie.Need-add-at Inv-loop μ-loop
+add-at c = search needs
+
+mul-at : tie.Need-mul-at Inv-loop μ-loop
+mul-at c = search needs
+
 cast-pairs : tie.Need-cast-pairs Inv-loop μ-loop
 cast-pairs c = search needs
 
 shared-slice-read-pairs : tie.Need-shared-slice-read-pairs Inv-loop μ-loop
 shared-slice-read-pairs c = omega (arith, within (c .before .before))
-
-mul-pairs : tie.Need-mul-pairs Inv-loop μ-loop
-mul-pairs c = search needs
 
 slice-write-pairs : tie.Need-slice-write-pairs Inv-loop μ-loop
 slice-write-pairs c = omega arith
@@ -55,9 +55,6 @@ cast-pairs-2 c = search needs
 
 shared-slice-read-pairs-2 : tie.Need-shared-slice-read-pairs-2 Inv-loop μ-loop
 shared-slice-read-pairs-2 c = omega (arith, within (c .before .before .before .before))
-
-mul-pairs-2 : tie.Need-mul-pairs-2 Inv-loop μ-loop
-mul-pairs-2 c = search needs
 
 add-pairs : tie.Need-add-pairs Inv-loop μ-loop
 add-pairs c = search needs
@@ -81,7 +78,7 @@ loop-again c =
       inv .0,
       omega arith,
       simp length-set (inv .2),
-      pair-more (a .outputs .now) (a .lines .now) (a .pairs .now) (start .pre .1) (loop .loop .j) (omega arith) (inv .3) (pair .pair-at .ensures),
+      pair-more (a .outputs .now) (a .lines .now) (a .pairs .now) (a .before) (loop .loop .j) (inv .3) (pair .pair-at .ensures) refl,
     )
 
 same-length : tie.Need-same-length Inv-loop μ-loop
@@ -92,7 +89,7 @@ returns c =
     let loop = c .before in
     let start = loop .before .before .before .before in
     let a = start .args in
-    loop .loop .inv .3 ∙ pairs-done (a .outputs .now) (a .lines .now) (a .pairs .now) (start .pre .1) (loop .loop .j) (omega arith)
+    loop .loop .inv .3 ∙ pairs-done (a .outputs .now) (a .lines .now) (a .pairs .now) (a .before) (loop .loop .j) (omega arith)
 
 pub show-pairs-spec : {M : Type 1} → statement M
 show-pairs-spec =
@@ -102,13 +99,13 @@ show-pairs-spec =
     μ-loop
     loop-holds
     pair-at-requires
+    add-at
+    mul-at
     cast-pairs
     shared-slice-read-pairs
-    mul-pairs
     slice-write-pairs
     cast-pairs-2
     shared-slice-read-pairs-2
-    mul-pairs-2
     add-pairs
     slice-write-pairs-2
     add-j

@@ -1,4 +1,4 @@
--- `page::put_outputs` meets its contract. The loop's invariant: the rows of the outputs passed are written.
+-- `page::put_pairs` meets its contract. The loop's invariant: the rows of the pairs passed are written.
 use borrow.Author.Needs.{needs}
 use native.Mathlib.Nat.{zero-add}
 use native.Mathlib.Omega.{arith}
@@ -6,26 +6,26 @@ use Prim.Native.Nat.{ℕ, _-_, _/_, _≤_}
 use mathlib.Core.Path.{_≡_, refl, sym, ap, _∙_}
 use lib.ListN.{length}
 use Rattle.netlist.specs.Netlist.{pairAt, pairsOf}
-use Rattle.sheet.specs.Sheet.{outputRow}
+use Rattle.sheet.specs.Sheet.{pairRow}
 use Rattle.sheet.proofs.Pages.{filled, none-filled, row-more}
-use Rattle.sheet.proofs.page.put_outputs.Statement.{statement}
-use Rattle.sheet.proofs.page.put_outputs.Tie as tie
+use Rattle.sheet.proofs.page.put_pairs.Statement.{statement}
+use Rattle.sheet.proofs.page.put_pairs.Tie as tie
 
 abbrev Inv-loop : tie.InvT-loop
-Inv-loop text₀ before outputs j₀ j-end text j =
-    (j-end ≡ length outputs / 4) × (j ≤ j-end) × (length text ≡ length text₀) × (text ≡ filled outputRow text₀ before 0 (pairAt outputs) j)
+Inv-loop text₀ before kind pairs j₀ j-end text j =
+    (j-end ≡ length pairs / 4) × (j ≤ j-end) × (length text ≡ length text₀) × (text ≡ filled (pairRow kind) text₀ before 0 (pairAt pairs) j)
 
 abbrev μ-loop : tie.MeasureT-loop
-μ-loop text₀ before outputs j₀ j-end text j = j-end - j
+μ-loop text₀ before kind pairs j₀ j-end text j = j-end - j
 
 loop-holds : tie.Need-loop-holds Inv-loop μ-loop
-loop-holds c = (refl, omega arith, refl, none-filled outputRow _ _ 0 _)
+loop-holds c = (refl, omega arith, refl, none-filled (pairRow _) _ _ 0 _)
 
 pair-at-requires : tie.Need-pair-at-requires Inv-loop μ-loop
 pair-at-requires c κs = search needs
 
-cast-t10 : tie.Need-cast-t10 Inv-loop μ-loop
-cast-t10 c = search needs
+cast-t11 : tie.Need-cast-t11 Inv-loop μ-loop
+cast-t11 c = search needs
 
 add-put-next : tie.Need-add-put-next Inv-loop μ-loop
 add-put-next c = search needs
@@ -55,8 +55,8 @@ loop-again c =
       inv .0,
       omega (arith, pair .before .loop-test),
       put .put-next .kept .0 ∙ inv .2,
-      row-more outputRow (a .text .now) (a .before) 0 (pairAt (a .outputs .now)) j (inv .3) refl
-          (ap (outputRow j) (pair .pair-at .ensures) ∙ ap (λ (k : ℕ). outputRow k (pairAt (a .outputs .now) j)) (sym (zero-add j)))
+      row-more (pairRow (a .kind)) (a .text .now) (a .before) 0 (pairAt (a .pairs .now)) j (inv .3) refl
+          (ap (pairRow (a .kind) j) (pair .pair-at .ensures) ∙ ap (λ (k : ℕ). pairRow (a .kind) k (pairAt (a .pairs .now) j)) (sym (zero-add j)))
           (put .put-next .ensures),
     )
 
@@ -68,17 +68,17 @@ unfolding pairsOf
 returns c =
     let loop = c .before in
     let a = loop .before .before .before .args in
-    loop .loop .inv .3 ∙ ap (filled outputRow (a .text .now) (a .before) 0 (pairAt (a .outputs .now))) (omega (arith, loop .loop .inv, c .loop-test))
+    loop .loop .inv .3 ∙ ap (filled (pairRow (a .kind)) (a .text .now) (a .before) 0 (pairAt (a .pairs .now))) (omega (arith, loop .loop .inv, c .loop-test))
 
-pub put-outputs-spec : {M : Type 1} → statement M
-put-outputs-spec =
+pub put-pairs-spec : {M : Type 1} → statement M
+put-pairs-spec =
     tie.close
     (tie.spec
     Inv-loop
     μ-loop
     loop-holds
     pair-at-requires
-    cast-t10
+    cast-t11
     add-put-next
     put-next-requires
     add-j

@@ -1,17 +1,16 @@
--- `netlists::show_outputs` meets its contract. The loop's invariant: its end is how many outputs there are. The measure is how many are
--- left.
+-- `netlists::show_pairs` meets its contract. The loop's invariant: its end is how many pairs there are. The measure is how many are left.
 use Prim.Native.Nat.{_-_, _/_}
 use mathlib.Core.Path.{_≡_}
 use borrow.Author.Needs.{needs}
 use lib.ListN.{length}
-use Rattle.listings.proofs.netlists.show_outputs.Statement.{statement}
-use Rattle.listings.proofs.netlists.show_outputs.Tie as tie
+use Rattle.listings.proofs.netlists.show_pairs.Statement.{statement}
+use Rattle.listings.proofs.netlists.show_pairs.Tie as tie
 
 abbrev Inv-loop : tie.InvT-loop
-Inv-loop outputs j₀ t5 j-end j = j-end ≡ length outputs / 4
+Inv-loop name pairs j₀ t6 j-end j = j-end ≡ length pairs / 4
 
 abbrev μ-loop : tie.MeasureT-loop
-μ-loop outputs j₀ t5 j-end j = j-end - j
+μ-loop name pairs j₀ t6 j-end j = j-end - j
 
 loop-holds : tie.Need-loop-holds Inv-loop μ-loop
 loop-holds c = search needs
@@ -37,6 +36,9 @@ number-at-requires-2 c κs = search needs
 cast-low : tie.Need-cast-low Inv-loop μ-loop
 cast-low c = search needs
 
+text-requires : tie.Need-text-requires Inv-loop μ-loop
+text-requires c κs = search needs
+
 slice-aggregate-form : tie.Need-slice-aggregate-form Inv-loop μ-loop
 slice-aggregate-form c = search needs
 
@@ -55,8 +57,8 @@ loop-again c = search needs
 returns : tie.Need-returns Inv-loop μ-loop
 returns c = search needs
 
-pub show-outputs-spec : {M : Type 1} → statement M
-show-outputs-spec =
+pub show-pairs-spec : {M : Type 1} → statement M
+show-pairs-spec =
     tie.close
     (tie.spec
     Inv-loop
@@ -69,6 +71,7 @@ show-outputs-spec =
     add-number-at
     number-at-requires-2
     cast-low
+    text-requires
     slice-aggregate-form
     form-requires
     add-j

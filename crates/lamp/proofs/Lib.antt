@@ -1,0 +1,10 @@
+pub mod Joins
+pub mod Extended
+pub mod Laid
+pub mod Lamps
+pub mod OneSided
+pub mod Depths
+pub mod Shown
+pub mod Boards
+pub mod Stuck
+pub mod Promises
