@@ -2,8 +2,8 @@
 use borrow.Author.Tests.{leb-true, eqb-true, eq-eqb, le-leb}
 use Prim.Native.Nat.{ℕ, suc, _/_, _%_, _≤_}
 use native.Mathlib.Omega.{arith}
-use mathlib.Core.Path.{_≡_, refl, ap, _∙_}
-use mathlib.Core.Bool.{true, _&&_}
+use mathlib.Core.Path.{_≡_, refl, sym, ap, ap₂, _∙_}
+use mathlib.Core.Bool.{Bool, true, _&&_}
 use mathlib.Core.List.{List, _∷_}
 use lib.Dec.{leb, eqb}
 use lib.ListN.{length, drop}
@@ -40,6 +40,11 @@ has-parts tag size low high i e =
 pub whole-parts : (tag size low high : ℕ) (v : List ℕ) → length v % size ≡ 0 → low ≤ length v / size → length v / size ≤ high →
     hasParts tag size low high (record { tag = tag; value = v }) ≡ true
 whole-parts tag size low high v w l m = simp (eq-eqb tag tag refl, eq-eqb _ _ w, le-leb _ _ l, le-leb _ _ m)
+
+-- The test's answer on an item, by the answer on a field that stands for it.
+pub parted : (tag size low high : ℕ) {most : ℕ} {i j : Item} {r : Bool} → r ≡ hasParts tag size low most i → most ≡ high → i ≡ j →
+    hasParts tag size low high j ≡ r
+parted tag size low high e m f = ap₂ (hasParts tag size low) (sym m) (sym f) ∙ sym e
 
 -- Such a field at a place, and those behind it.
 pub part-at : (k tag size low high : ℕ) (is : List Item) → 1 ≤ tag → hasParts tag size low high (itemIn is k) ≡ true →

@@ -1,11 +1,12 @@
 -- `form::ask_form` meets its contract: each answer is the case that the answers before it lead to.
 use borrow.Author.Needs.{needs}
+use native.Mathlib.Omega.{arith}
 use borrow.Author.Tests.{not-true, not-false}
 use Prim.Native.Nat.{ℕ}
 use mathlib.Core.Path.{_≡_, sym, ap, _∙_}
 use mathlib.Core.List.{List}
 use Rattle.fields.specs.Fields.{Item, fieldsOf, valueIn}
-use Rattle.files.specs.Header.{hasParts}
+use Rattle.files.proofs.WholeParts.{parted}
 use Rattle.drawing.proofs.Forms.{broken, uncounted, first-misparted, second-misparted, too-many, unsound, formed, parts-are}
 use Rattle.drawing.proofs.form.ask_form.Statement.{statement}
 use Rattle.drawing.proofs.form.ask_form.Tie as tie
@@ -45,7 +46,7 @@ has-parts-requires c κs = search needs
 
 returns-3 : tie.Need-returns-3
 returns-3 c =
-    first-misparted _ (ap (hasParts 2 1 1 8) (sym (c .before .before .field-at .ensures)) ∙ sym (c .before .has-parts .ensures) ∙ not-true _ (c .if1 .taken))
+    first-misparted _ (parted 2 1 1 8 (c .before .has-parts .ensures) (omega arith) (c .before .before .field-at .ensures) ∙ not-true _ (c .if1 .taken))
 
 field-at-requires-2 : tie.Need-field-at-requires-2
 field-at-requires-2 c κs = search needs
@@ -55,7 +56,7 @@ has-parts-requires-2 c κs = search needs
 
 returns-4 : tie.Need-returns-4
 returns-4 c =
-    second-misparted _ (ap (hasParts 7 3 0 200) (sym (c .before .before .field-at2 .ensures)) ∙ sym (c .before .has-parts2 .ensures) ∙ not-true _ (c .if2 .taken))
+    second-misparted _ (parted 7 3 0 200 (c .before .has-parts2 .ensures) (omega arith) (c .before .before .field-at2 .ensures) ∙ not-true _ (c .if2 .taken))
 
 at-most-requires : tie.Need-at-most-requires
 at-most-requires c κs = search needs
@@ -98,8 +99,8 @@ returns-7 c =
     let whole = count .before .before .before in
     let counted = sym (count .before .before .count-contacts .ensures) ∙ count .n .given .1 in
     formed _ (sym (whole .before .before .whole .ensures) ∙ whole .enum-told .given .1) counted
-    (ap (hasParts 2 1 1 8) (sym (outputs .before .before .field-at .ensures)) ∙ sym (outputs .before .has-parts .ensures) ∙ not-false _ (outputs .if1 .left))
-    (ap (hasParts 7 3 0 200) (sym (nodes .before .before .field-at2 .ensures)) ∙ sym (nodes .before .has-parts2 .ensures) ∙ not-false _ (nodes .if2 .left))
+    (parted 2 1 1 8 (outputs .before .has-parts .ensures) (omega arith) (outputs .before .before .field-at .ensures) ∙ not-false _ (outputs .if1 .left))
+    (parted 7 3 0 200 (nodes .before .has-parts2 .ensures) (omega arith) (nodes .before .before .field-at2 .ensures) ∙ not-false _ (nodes .if2 .left))
     (sym (ended .before .at-most .ensures) ∙ not-false _ (ended .if3 .left))
     (parts-are _ counted (outputs-are v) (nodes-are v) (c .before .is-sound .ensures) ∙ not-false _ (c .if4 .left))
 

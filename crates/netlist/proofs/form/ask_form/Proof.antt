@@ -1,8 +1,9 @@
 -- `form::ask_form` meets its contract: each answer is the case that the answers before it lead to.
 use borrow.Author.Needs.{needs}
+use native.Mathlib.Omega.{arith}
 use borrow.Author.Tests.{not-true, not-false}
 use mathlib.Core.Path.{sym, ap, _∙_}
-use Rattle.files.specs.Header.{hasParts}
+use Rattle.files.proofs.WholeParts.{parted}
 use Rattle.netlist.proofs.Forms.{broken, uncounted, gates-misparted, outputs-misparted, misended, formed}
 use Rattle.netlist.proofs.form.ask_form.Statement.{statement}
 use Rattle.netlist.proofs.form.ask_form.Tie as tie
@@ -39,7 +40,7 @@ has-parts-requires c κs = search needs
 
 returns-3 : tie.Need-returns-3
 returns-3 c =
-    gates-misparted _ (ap (hasParts 4 5 0 10602) (sym (c .before .before .field-at .ensures)) ∙ sym (c .before .has-parts .ensures) ∙ not-true _ (c .if1 .taken))
+    gates-misparted _ (parted 4 5 0 10602 (c .before .has-parts .ensures) (omega arith) (c .before .before .field-at .ensures) ∙ not-true _ (c .if1 .taken))
 
 field-at-requires-2 : tie.Need-field-at-requires-2
 field-at-requires-2 c κs = search needs
@@ -49,7 +50,7 @@ has-parts-requires-2 c κs = search needs
 
 returns-4 : tie.Need-returns-4
 returns-4 c =
-    outputs-misparted _ (ap (hasParts 5 4 1 8) (sym (c .before .before .field-at2 .ensures)) ∙ sym (c .before .has-parts2 .ensures) ∙ not-true _ (c .if2 .taken))
+    outputs-misparted _ (parted 5 4 1 8 (c .before .has-parts2 .ensures) (omega arith) (c .before .before .field-at2 .ensures) ∙ not-true _ (c .if2 .taken))
 
 ends-in-lamp-requires : tie.Need-ends-in-lamp-requires
 ends-in-lamp-requires c κs = search needs
@@ -65,8 +66,8 @@ returns-6 c =
     let whole = count .before .before .before in
     formed _ (sym (whole .before .before .whole .ensures) ∙ whole .enum-told .given .1)
     (sym (count .before .before .count-contacts .ensures) ∙ count .n .given .1)
-    (ap (hasParts 4 5 0 10602) (sym (gates .before .before .field-at .ensures)) ∙ sym (gates .before .has-parts .ensures) ∙ not-false _ (gates .if1 .left))
-    (ap (hasParts 5 4 1 8) (sym (outputs .before .before .field-at2 .ensures)) ∙ sym (outputs .before .has-parts2 .ensures) ∙ not-false _ (outputs .if2 .left))
+    (parted 4 5 0 10602 (gates .before .has-parts .ensures) (omega arith) (gates .before .before .field-at .ensures) ∙ not-false _ (gates .if1 .left))
+    (parted 5 4 1 8 (outputs .before .has-parts2 .ensures) (omega arith) (outputs .before .before .field-at2 .ensures) ∙ not-false _ (outputs .if2 .left))
     (sym (c .before .ends-in-lamp .ensures) ∙ not-false _ (c .if3 .left))
 
 pub ask-form-spec : {M : Type 1} → statement M

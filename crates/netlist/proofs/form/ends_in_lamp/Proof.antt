@@ -1,8 +1,9 @@
 -- `form::ends_in_lamp` meets its contract, by what the tests ensure.
 use borrow.Author.Needs.{needs}
+use native.Mathlib.Omega.{arith}
 use borrow.Author.Tests.{not-true, not-false}
 use mathlib.Core.Path.{sym, ap, _∙_}
-use Rattle.files.specs.Header.{hasParts}
+use Rattle.files.proofs.WholeParts.{parted}
 use Rattle.netlist.proofs.form.ends_in_lamp.Statement.{statement}
 use Rattle.netlist.proofs.form.ends_in_lamp.Tie as tie
 
@@ -23,7 +24,7 @@ returns-2 c =
     let few = c .before .before .before in
     simp (
       sym (few .before .at-most .ensures) ∙ few .if1 .left,
-      ap (hasParts 6 4 1 1) (sym (c .before .before .field-at .ensures)) ∙ sym (c .before .has-parts .ensures) ∙ not-true _ (c .if2 .taken),
+      parted 6 4 1 1 (c .before .has-parts .ensures) (omega arith) (c .before .before .field-at .ensures) ∙ not-true _ (c .if2 .taken),
     )
 
 at-most-requires-2 : tie.Need-at-most-requires-2
@@ -36,7 +37,7 @@ returns-3 c =
     c .at-most2 .ensures
     ∙ simp (
       sym (few .before .at-most .ensures) ∙ few .if1 .left,
-      ap (hasParts 6 4 1 1) (sym (parts .before .before .field-at .ensures)) ∙ sym (parts .before .has-parts .ensures)
+      parted 6 4 1 1 (parts .before .has-parts .ensures) (omega arith) (parts .before .before .field-at .ensures)
           ∙ not-false _ (parts .if2 .left),
     )
 

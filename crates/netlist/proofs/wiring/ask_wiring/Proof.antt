@@ -1,9 +1,9 @@
 -- `wiring::ask_wiring` meets its contract, by what the three tests ensure.
 use borrow.Author.Needs.{needs}
 use borrow.Author.Tests.{not-true, not-false}
-use mathlib.Core.Path.{sym, _∙_}
-use mathlib.Core.Bool.{and-false}
-use Rattle.netlist.specs.Questions.{isSound}
+use mathlib.Core.Path.{_≡_, sym, _∙_}
+use mathlib.Core.Bool.{true, and-false}
+use Rattle.netlist.specs.Questions.{arePairs, isSound}
 use Rattle.netlist.proofs.wiring.ask_wiring.Statement.{statement}
 use Rattle.netlist.proofs.wiring.ask_wiring.Tie as tie
 
@@ -44,10 +44,12 @@ unfolding isSound
 returns-4 c =
     let pairs = c .before .before in
     let gates = pairs .before .before in
+    let start = gates .before .before .before .before .before .args in
+    let lit : arePairs _ (start .lamp .now) ≡ true = sym (c .before .pairs-sound2 .ensures) ∙ not-false _ (c .if3 .left) in
     simp (
       sym (gates .before .gates-sound .ensures) ∙ not-false _ (gates .if1 .left),
       sym (pairs .before .pairs-sound .ensures) ∙ not-false _ (pairs .if2 .left),
-      sym (c .before .pairs-sound2 .ensures) ∙ not-false _ (c .if3 .left),
+      lit,
     )
 
 pub ask-wiring-spec : {M : Type 1} → statement M

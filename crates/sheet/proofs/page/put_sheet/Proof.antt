@@ -1,7 +1,12 @@
 -- `page::put_sheet` meets its contract: the heading, the gates' rows, the outputs' rows and the lamp's row.
 use borrow.Author.Needs.{needs}
+use Prim.Native.Nat.{ℕ}
+use mathlib.Core.Path.{_≡_}
+use mathlib.Core.List.{List}
+use lib.Seq.{sets}
 use Rattle.netlist.specs.Netlist.{gatesOf, pairsOf, netWith}
 use Rattle.netlist.proofs.Lists.{length-gates, length-pairs}
+use Rattle.sheet.specs.Sheet.{outputRow, numberedRows, rowsFrom}
 use Rattle.sheet.proofs.Pages.{sheet-written}
 use Rattle.sheet.proofs.page.put_sheet.Statement.{statement}
 use Rattle.sheet.proofs.page.put_sheet.Tie as tie
@@ -43,9 +48,10 @@ returns c =
     let l = a .lamp .now in
     let some = length-gates g in
     let few = length-pairs p in
+    let second : _≡_ {A = List ℕ} _ (sets _ _ (rowsFrom _ (numberedRows outputRow 0 (pairsOf p)))) = outputs .put-pairs .ensures in
     sheet-written (netWith (a .n) (gatesOf g) (pairsOf p) (pairsOf l)) (a .text .now) some few
     (rw (some, few, length-pairs l) (start .pre .1 .1))
-    (heading .put-heading .ensures) (gates .put-gates .ensures) (outputs .put-pairs .ensures) (lamp .put-pairs2 .ensures)
+    (heading .put-heading .ensures) (gates .put-gates .ensures) second (lamp .put-pairs2 .ensures)
 
 pub put-sheet-spec : {M : Type 1} → statement M
 put-sheet-spec =
