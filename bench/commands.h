@@ -17,6 +17,8 @@ struct request {
     bool lines;         /* --lines */
     bool all;           /* --all */
     bool lamp;          /* --lamp */
+    uint8_t *notes;     /* --note: the fields, in their order */
+    size_t notes_length;
     enum format format;
     struct file file[2]; /* those loaded so far */
     int files;
@@ -31,5 +33,6 @@ command draw;                                /* draw.c */
 command check, build, read_off, probe;       /* on_table.c */
 command list, run;                           /* on_netlist.c */
 command compare, dictionary, export_netlist; /* compare.c, dictionary.c, export.c */
+command notes;                               /* notes.c */
 
 #endif

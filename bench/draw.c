@@ -5,7 +5,7 @@
 #include "../include/pilgodur.h"
 #include "commands.h"
 #include "drawing.h"
-#include "netlist.h"
+#include "fields.h"
 #include "show.h"
 
 enum { CONTACTS, OUTPUTS, NODES, FIELDS };
@@ -54,24 +54,40 @@ static bool count_fault(const struct fields *f, unsigned k, struct fault *fault)
     return false;
 }
 
+/* A field that is cut short. One of the tag of a note may be the mark that some editors put before text. */
+static bool cut_fault(const struct drawing *drawing, size_t at, unsigned k, struct fault *fault)
+{
+    static const uint8_t byte_order_mark[] = {0xef, 0xbb, 0xbf};
+    const size_t size = sizeof byte_order_mark;
+    if (drawing->bytes[at] < PILGODUR_NOTE_TAG)
+        return say(fault, "the %s field is cut short", field_names[k]);
+    bool marked = at == 0 && drawing->length >= size && memcmp(drawing->bytes, byte_order_mark, size) == 0;
+    return say(fault, "a note is cut short%s", marked ? ", or this is text with a byte order mark before it" : "");
+}
+
 /* Finds the fields. */
 static bool field_fault(struct fields *f, struct fault *fault)
 {
     const uint8_t *bytes = f->drawing->bytes;
     size_t at = 0, length = f->drawing->length;
     for (unsigned k = 0; k < FIELDS; k++) {
+        struct field field;
+        at = past_notes(bytes, length, at);
         if (at == length)
             return say(fault, "there is no %s field", field_names[k]);
-        if (length - at < 3 || two_bytes(bytes + at + 1) > length - at - 3)
-            return say(fault, "the %s field is cut short", field_names[k]);
-        if (bytes[at] != tags[k])
-            return say(fault, "the %s field has tag %u, not %u", field_names[k], bytes[at], tags[k]);
-        f->value[k] = bytes + at + 3;
-        f->length[k] = two_bytes(bytes + at + 1);
+        if (!field_at(bytes, length, at, &field))
+            return cut_fault(f->drawing, at, k, fault);
+        if (field.tag != tags[k])
+            return say(fault, "the %s field has tag %u, not %u", field_names[k], field.tag, tags[k]);
+        f->value[k] = field.value;
+        f->length[k] = field.length;
         if (count_fault(f, k, fault))
             return true;
-        at += 3 + f->length[k];
+        at += HEAD + field.length;
     }
+    at = past_notes(bytes, length, at);
+    if (at < length && bytes[at] >= PILGODUR_NOTE_TAG)
+        return cut_fault(f->drawing, at, NODES, fault);
     return at < length && say(fault, "there are bytes after the third field");
 }
 
@@ -142,16 +158,15 @@ struct values {
     uint8_t of[DRAWING_OUTPUTS][1 << 12];
 };
 
-static void put_values(const uint8_t *bytes, struct values *v)
+static void put_values(const struct fields *f, struct values *v)
 {
-    v->contacts = bytes[3];
-    v->outputs = bytes[6];
-    const uint8_t *nodes = bytes + 7 + v->outputs + 3;
+    v->contacts = f->value[CONTACTS][0];
+    v->outputs = (unsigned)f->length[OUTPUTS];
     for (unsigned j = 0; j < v->outputs; j++)
         for (unsigned place = 0; place < 1u << v->contacts; place++) {
-            uint8_t number = bytes[7 + j];
+            uint8_t number = f->value[OUTPUTS][j];
             while (number > 1) {
-                const uint8_t *node = nodes + 3 * (number - 2);
+                const uint8_t *node = f->value[NODES] + 3 * (number - 2);
                 number = node[1 + (place >> (v->contacts - 1 - node[0]) & 1)];
             }
             v->of[j][place] = number;
@@ -181,8 +196,11 @@ static bool is_wide(const struct values *v, unsigned fixed)
 static void find_width(const struct drawing *drawing, struct fault *fault)
 {
     static struct values v;
+    struct fields f = {.drawing = drawing};
     unsigned fixed = 1;
-    put_values(drawing->bytes, &v);
+    if (field_fault(&f, fault))
+        return;
+    put_values(&f, &v);
     while (fixed < v.contacts && !is_wide(&v, fixed))
         fixed++;
     if (fixed == 1)

@@ -6,6 +6,8 @@
 #include <stdlib.h>
 #include <string.h>
 
+#include "../include/pilgodur.h"
+#include "fields.h"
 #include "report.h"
 
 enum { LONGEST_SHOWN = 40, FIRST_ROOM = 64 };
@@ -215,14 +217,6 @@ static void read_nodes(struct text *text, struct drawing *drawing)
 
 /* ---- The drawing's bytes. ---- */
 
-static uint8_t *put_head(uint8_t *at, unsigned tag, size_t length)
-{
-    at[0] = (uint8_t)tag;
-    at[1] = (uint8_t)(length / 256);
-    at[2] = (uint8_t)length;
-    return at + 3;
-}
-
 static size_t smaller(size_t a, size_t b)
 {
     return a < b ? a : b;
@@ -282,10 +276,16 @@ static void read_text(const struct file *file, struct drawing *drawing)
     drawing->length = (size_t)(put - drawing->made);
 }
 
+bool is_text(const struct file *file)
+{
+    uint8_t first = file->length > 0 ? file->at[0] : 0;
+    return (' ' <= first && first < PILGODUR_NOTE_TAG) || memchr("\t\r\n", first, 3) != NULL;
+}
+
 void read_drawing(const struct file *file, struct drawing *drawing)
 {
     *drawing = (struct drawing){.name = file->name, .bytes = file->at, .length = file->length};
-    if (file->length > 0 && (file->at[0] >= ' ' || memchr("\t\r\n", file->at[0], 3) != NULL))
+    if (is_text(file))
         read_text(file, drawing);
 }
 

@@ -1,5 +1,6 @@
 #include "jobs.h"
 
+#include <stdlib.h>
 #include <string.h>
 
 struct dice dice = {1};
@@ -191,4 +192,20 @@ void use_wide_drawing(unsigned level)
     wide_drawing(&dice, 12, level, 9, &d);
     redraw(&dice, MOST_NODES, &d);
     use_drawing(&d);
+}
+
+void note_file(const uint8_t *file, size_t length, unsigned notes, unsigned size)
+{
+    job.noted_length = (size_t)notes * (3 + size) + length;
+    job.noted = malloc(job.noted_length);
+    if (job.noted == NULL)
+        abort();
+    uint8_t *at = job.noted;
+    for (unsigned i = 0; i < notes; i++) {
+        *at = (uint8_t)(PILGODUR_NOTE_TAG + i % (256 - PILGODUR_NOTE_TAG));
+        at = put_two(at + 1, size);
+        memset(at, 'x', size);
+        at += size;
+    }
+    memcpy(at, file, length);
 }

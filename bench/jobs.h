@@ -21,6 +21,8 @@ struct job {
     uint8_t drawing[DRAWING_MAX];
     size_t drawing_length;
     unsigned nodes;
+    uint8_t *noted; /* one of these files with notes */
+    size_t noted_length;
 };
 
 extern struct dice dice;
@@ -59,5 +61,8 @@ void use_wide_drawing(unsigned level);
 
 /* Makes `hold` the one that shows latest, and returns the input at which it does. */
 uint32_t hold_latest_line(void);
+
+/* Makes `noted` this file with notes before its first field, so many with so many bytes in each value. */
+void note_file(const uint8_t *file, size_t length, unsigned notes, unsigned size);
 
 #endif

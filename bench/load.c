@@ -74,7 +74,7 @@ static void load_stream(FILE *stream, struct file *file)
     while ((count = fread(file->at + file->length, 1, room - file->length, stream)) != 0) {
         file->length += count;
         if (file->length > MOST)
-            fail(FAILED, "%s: it has more than %d bytes, which no table, netlist or drawing needs", file->name, MOST);
+            fail(FAILED, "%s: it has more than %d bytes, which is more than this program reads", file->name, MOST);
         if (file->length == room)
             make_room(file, room *= 2);
     }

@@ -6,7 +6,7 @@
 #include <string.h>
 #include <time.h>
 
-enum { MOST_ROWS = 48, MOST_JOBS = 64 };
+enum { MOST_ROWS = 64, MOST_JOBS = 80 };
 
 struct row {
     char name[80];

@@ -4,11 +4,6 @@
 
 enum { CONTACTS = 1, GATES = 4, OUTPUTS = 5, LAMP = 6, MOST_CONTACTS = 12 }; /* tags, and a limit */
 
-unsigned two_bytes(const uint8_t *at)
-{
-    return 256u * at[0] + at[1];
-}
-
 unsigned first_gate(const struct netlist *netlist)
 {
     return 2 + 2 * netlist->contacts;
@@ -61,26 +56,33 @@ bool is_read(const struct netlist *netlist, unsigned line)
     return false;
 }
 
-/* The view of a file that is known to be a netlist. */
+/* The view of a file that is known to be a netlist; its notes have other tags. */
 static struct netlist view(const char *name, const uint8_t *bytes, size_t length)
 {
     struct netlist netlist = {.name = name, .bytes = bytes, .length = length};
-    for (size_t at = 0; at < length; at += 3 + two_bytes(bytes + at + 1)) {
-        const uint8_t *value = bytes + at + 3;
-        unsigned size = two_bytes(bytes + at + 1);
-        if (bytes[at] == CONTACTS) {
-            netlist.contacts = value[0];
-        } else if (bytes[at] == GATES) {
-            netlist.gates = size / 5;
-            netlist.gate = value;
-        } else if (bytes[at] == OUTPUTS) {
-            netlist.outputs = size / 4;
-            netlist.output = value;
-        } else if (bytes[at] == LAMP) {
-            netlist.lamp = value;
+    struct field field;
+    for (size_t at = 0; field_at(bytes, length, at, &field); at += HEAD + field.length) {
+        if (field.tag == CONTACTS) {
+            netlist.contacts = field.value[0];
+        } else if (field.tag == GATES) {
+            netlist.gates = (unsigned)field.length / 5;
+            netlist.gate = field.value;
+        } else if (field.tag == OUTPUTS) {
+            netlist.outputs = (unsigned)field.length / 4;
+            netlist.output = field.value;
+        } else if (field.tag == LAMP) {
+            netlist.lamp = field.value;
         }
     }
     return netlist;
+}
+
+/* The count of contacts that the first field gives, notes left out, or 0. */
+static unsigned contacts_in(const struct file *file)
+{
+    struct field field;
+    bool found = field_at(file->at, file->length, past_notes(file->at, file->length, 0), &field);
+    return found && field.length == 1 && field.value[0] <= MOST_CONTACTS ? field.value[0] : 0;
 }
 
 /* Questions 11 and 12 are asked by a run with all rails at 0. */
@@ -89,7 +91,7 @@ struct netlist netlist_in(const struct file *file)
     static const uint8_t rails[2 * MOST_CONTACTS];
     static uint8_t lines[PILGODUR_LINES_MAX];
     static uint8_t pairs[PILGODUR_PAIRS_MAX];
-    size_t count = file->length > 3 && file->at[3] <= MOST_CONTACTS ? 2 * (size_t)file->at[3] : 0;
+    size_t count = 2 * (size_t)contacts_in(file);
     uint32_t refusal = pilgodur_run(file->at, file->length, rails, count, rails, 0, lines, sizeof lines, pairs, sizeof pairs);
     if (refusal != 0)
         refuse(refusal, "%s", file->name);
@@ -104,8 +106,18 @@ struct netlist netlist_of(const struct file *table, bool lamp, uint8_t room[PILG
     return view(table->name, room, built.length);
 }
 
+/* The tag of the second field, notes left out, be it cut short; 0 if there is none. */
+static unsigned second_tag(const struct file *file)
+{
+    struct field first;
+    size_t at = past_notes(file->at, file->length, 0);
+    if (!field_at(file->at, file->length, at, &first))
+        return 0;
+    at = past_notes(file->at, file->length, at + HEAD + first.length);
+    return at < file->length ? file->at[at] : 0;
+}
+
 struct netlist netlist_in_or_of(const struct file *file, bool lamp, uint8_t room[PILGODUR_FILE_MAX])
 {
-    bool is_netlist = file->length > 4 && file->at[4] == GATES;
-    return is_netlist ? netlist_in(file) : netlist_of(file, lamp, room);
+    return second_tag(file) == GATES ? netlist_in(file) : netlist_of(file, lamp, room);
 }

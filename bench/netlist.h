@@ -3,7 +3,7 @@
 #define NETLIST_H
 
 #include "../include/pilgodur.h"
-#include "load.h"
+#include "fields.h"
 
 struct netlist {
     const char *name; /* of the file that it comes from */
@@ -24,8 +24,6 @@ struct gate {
 struct pair {
     unsigned yes, no;
 };
-
-unsigned two_bytes(const uint8_t *at);
 
 /* The line of gate 0, and the count of lines. */
 unsigned first_gate(const struct netlist *netlist);
@@ -48,7 +46,7 @@ struct netlist netlist_in(const struct file *file);
 /* The netlist of a table, built into `room`, with the lamp or without. A table that is refused ends the program. */
 struct netlist netlist_of(const struct file *table, bool lamp, uint8_t room[PILGODUR_FILE_MAX]);
 
-/* One or the other: a file whose second field has tag 4 is taken for a netlist as it is, any other for a table. */
+/* One or the other: a file whose second field, notes left out, has tag 4 is taken for a netlist as it is, any other for a table. */
 struct netlist netlist_in_or_of(const struct file *file, bool lamp, uint8_t room[PILGODUR_FILE_MAX]);
 
 #endif

@@ -1,5 +1,7 @@
 /* The commands on a table alone. */
 #include <inttypes.h>
+#include <stdlib.h>
+#include <string.h>
 
 #include "commands.h"
 #include "netlist.h"
@@ -38,10 +40,18 @@ enum status check(struct request *request, FILE *out)
     return ANSWERED;
 }
 
+/* The notes stand last, so that every byte of the netlist is where it is without them. */
 enum status build(struct request *request, FILE *out)
 {
     struct netlist netlist = netlist_of(load_operand(request, 0), request->lamp, room);
-    show_file(out, netlist.bytes, netlist.length, request->output == NULL);
+    uint8_t *file = malloc(netlist.length + request->notes_length);
+    if (file == NULL)
+        fail(FAILED, "out of memory");
+    memcpy(file, netlist.bytes, netlist.length);
+    if (request->notes_length > 0)
+        memcpy(file + netlist.length, request->notes, request->notes_length);
+    show_file(out, file, netlist.length + request->notes_length, request->output == NULL);
+    free(file);
     return ANSWERED;
 }
 

@@ -6,13 +6,14 @@
 #include <string.h>
 
 #include "../include/pilgodur.h"
+#include "fields.h"
 #include "save.h"
 
 /* What stands for each option: its letter, or a number above all letters. */
-enum option_name { OUTPUT = 'o', HELP = 'h', VERSION = 'V', OPERAND = 1, LINES = 256, ALL, LAMP, AS_BLIF, AS_VERILOG, AS_DOT };
+enum option_name { OUTPUT = 'o', HELP = 'h', VERSION = 'V', OPERAND = 1, LINES = 256, ALL, LAMP, NOTE, AS_BLIF, AS_VERILOG, AS_DOT };
 
 /* The options of one command. */
-enum { TAKES_OUTPUT = 1, TAKES_LINES = 2, TAKES_ALL = 4, TAKES_FORMAT = 8, TAKES_LAMP = 16 };
+enum { TAKES_OUTPUT = 1, TAKES_LINES = 2, TAKES_ALL = 4, TAKES_FORMAT = 8, TAKES_LAMP = 16, TAKES_NOTE = 32 };
 
 static const struct {
     const char *name;
@@ -22,7 +23,7 @@ static const struct {
 } commands[] = {
     {"draw", draw, 1, 1, TAKES_OUTPUT},
     {"check", check, 1, 1, 0},
-    {"build", build, 1, 1, TAKES_OUTPUT | TAKES_LAMP},
+    {"build", build, 1, 1, TAKES_OUTPUT | TAKES_LAMP | TAKES_NOTE},
     {"list", list, 1, 1, TAKES_LAMP},
     {"compare", compare, 2, 2, TAKES_ALL | TAKES_LAMP},
     {"read-off", read_off, 2, 2, 0},
@@ -30,14 +31,15 @@ static const struct {
     {"probe", probe, 2, 2, TAKES_LINES},
     {"dictionary", dictionary, 1, 1, TAKES_OUTPUT},
     {"export", export_netlist, 1, 1, TAKES_OUTPUT | TAKES_FORMAT | TAKES_LAMP},
+    {"notes", notes, 1, 1, 0},
 };
 
 static const struct option options[] = {
     {"output", required_argument, NULL, OUTPUT}, {"lines", no_argument, NULL, LINES},
     {"all", no_argument, NULL, ALL},             {"lamp", no_argument, NULL, LAMP},
     {"blif", no_argument, NULL, AS_BLIF},        {"verilog", no_argument, NULL, AS_VERILOG},
-    {"dot", no_argument, NULL, AS_DOT},          {"help", no_argument, NULL, HELP},
-    {"version", no_argument, NULL, VERSION},
+    {"dot", no_argument, NULL, AS_DOT},          {"note", required_argument, NULL, NOTE},
+    {"help", no_argument, NULL, HELP},           {"version", no_argument, NULL, VERSION},
     {NULL, 0, NULL, 0},
 };
 
@@ -46,7 +48,8 @@ static const char help[] =
     "\n"
     "  draw DRAWING [-o TABLE]         make the table of a drawing; without -o show it as hex: text\n"
     "  check TABLE                     ask the table's questions; show contacts, outputs, gates, depth and spare contacts\n"
-    "  build TABLE [--lamp] [-o FILE]  build the netlist; without -o show it as hex: text\n"
+    "  build TABLE [--lamp] [--note TEXT]... [-o FILE]\n"
+    "                                  build the netlist; without -o show it as hex: text\n"
     "  list TABLE|NETLIST [--lamp]     print the gate sheet: a row for each gate, then one for each output, then one for the lamp\n"
     "  compare A B [--all] [--lamp]    lay the gate lists of two tables or netlists side by side: show how many gates differ, the\n"
     "                                  first of them (all of them with --all), every output that differs, and the lamp if it does\n"
@@ -57,6 +60,7 @@ static const char help[] =
     "  dictionary TABLE [-o FILE]      probe every line at both values; write the answers as CSV; unread: nothing reads the line\n"
     "  export TABLE|NETLIST --blif|--verilog|--dot [--lamp] [-o FILE]\n"
     "                                  write the netlist for other tools, line 8 as the net l8\n"
+    "  notes TABLE|NETLIST|DRAWING     show the notes in a file; every other command passes over them\n"
     "\n"
     "DRAWING, TABLE, NETLIST and RAILS are files: a path, @PATH, - for standard input, or hex: and digits for the bytes\n"
     "themselves. What draw and build show is read back: a file or standard input may hold such hex: text, too.\n"
@@ -72,6 +76,7 @@ static const char help[] =
     "      --lines         also show the value of every line\n"
     "      --all           show every gate that differs\n"
     "      --lamp          build tables with the lamp, one pair for all outputs; a netlist has its own or none and stays as it is\n"
+    "      --note TEXT     put a note with this text last in the netlist file; several stand in the order in which they are given\n"
     "      --blif, --verilog, --dot   the form of an export\n"
     "  -h, --help          show this text\n"
     "  -V, --version       show the version\n"
@@ -94,6 +99,18 @@ static void set_output(struct request *request)
     request->output = optarg;
 }
 
+static void add_note(struct request *request)
+{
+    size_t length = strlen(optarg), before = request->notes_length;
+    if (length > LONGEST)
+        fail(MISUSED, "--note: its text has %zu bytes, but a note has at most %d", length, LONGEST);
+    request->notes_length += HEAD + length;
+    request->notes = realloc(request->notes, request->notes_length);
+    if (request->notes == NULL)
+        fail(FAILED, "out of memory");
+    memcpy(put_head(request->notes + before, PILGODUR_NOTE_TAG, length), optarg, length);
+}
+
 static void set_format(struct request *request, enum format format)
 {
     if (request->format != NO_FORMAT)
@@ -105,7 +122,7 @@ static void set_format(struct request *request, enum format format)
 static _Noreturn void refuse_option(int found, const char *word)
 {
     if (found == ':')
-        fail(MISUSED, "%s: a file must follow", word);
+        fail(MISUSED, "%s: a %s must follow", word, optopt == NOTE ? "text" : "file");
     if (optopt == 0)
         fail(MISUSED, "%s: no such option; see pilgodur --help", word);
     if (optopt >= LINES || optopt == HELP || optopt == VERSION)
@@ -132,6 +149,9 @@ static unsigned take_option(int found, const char *word, struct request *request
     case LAMP:
         request->lamp = true;
         return TAKES_LAMP;
+    case NOTE:
+        add_note(request);
+        return TAKES_NOTE;
     case AS_BLIF:
     case AS_VERILOG:
     case AS_DOT:
@@ -178,6 +198,7 @@ static const char *option_text(unsigned taken)
            : taken & TAKES_LINES ? "--lines"
            : taken & TAKES_ALL   ? "--all"
            : taken & TAKES_LAMP  ? "--lamp"
+           : taken & TAKES_NOTE  ? "--note"
                                  : "--blif, --verilog or --dot";
 }
 

@@ -31,6 +31,7 @@ int main(int argc, char **argv)
         fail(FAILED, "out of memory");
     save(request.output, text, length, request.file, request.files);
     free(text);
+    free(request.notes);
     for (int i = 0; i < request.files; i++)
         unload(&request.file[i]);
     return (int)status;

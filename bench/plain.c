@@ -38,39 +38,74 @@ static unsigned two_bytes(const uint8_t *at)
     return 256u * at[0] + at[1];
 }
 
-/* ---- The table's questions. ---- */
+/* ---- Fields. ---- */
 
-static bool whole_fields(const uint8_t *file, size_t length)
+/* A file of which the fields before `at` are read. */
+struct reader {
+    const uint8_t *at, *end;
+};
+
+struct field {
+    unsigned tag, length;
+    const uint8_t *value;
+};
+
+/* Reads the next field that is no note; false at the end, and at a field that is cut short, where the reader stays. */
+static bool next_field(struct reader *r, struct field *f)
 {
-    size_t at = 0;
-    while (at < length) {
-        if (length - at < 3 || length - at - 3 < two_bytes(file + at + 1))
+    do {
+        if (r->end - r->at < 3 || r->end - r->at - 3 < (ptrdiff_t)two_bytes(r->at + 1))
             return false;
-        at += 3 + two_bytes(file + at + 1);
-    }
+        *f = (struct field){r->at[0], two_bytes(r->at + 1), r->at + 3};
+        r->at += 3 + f->length;
+    } while (f->tag >= PILGODUR_NOTE_TAG);
     return true;
 }
 
-static bool is_contacts(const uint8_t *file, size_t length)
+/* Reads the next field; true if there is one, of this tag and of such a length. */
+static bool take(struct reader *r, unsigned tag, unsigned least, unsigned most, struct field *f)
 {
-    return length >= 4 && file[0] == 1 && two_bytes(file + 1) == 1 && 1 <= file[3] && file[3] <= 12;
+    return next_field(r, f) && f->tag == tag && least <= f->length && f->length <= most;
 }
 
-/* Question 4; finds the levels, which start at `at`. */
-static bool find_levels(const uint8_t *file, size_t length, size_t at, struct table *t)
+/* True if no field follows, whole or cut short. */
+static bool at_end(struct reader *r)
+{
+    struct field f;
+    return !next_field(r, &f) && r->at == r->end;
+}
+
+static bool take_contacts(struct reader *r, unsigned *contacts)
+{
+    struct field f;
+    if (!take(r, 1, 1, 1, &f) || f.value[0] < 1 || f.value[0] > 12)
+        return false;
+    *contacts = f.value[0];
+    return true;
+}
+
+static bool whole_fields(struct reader r)
+{
+    struct field f;
+    while (next_field(&r, &f))
+        continue;
+    return r.at == r.end;
+}
+
+/* ---- The table's questions. ---- */
+
+/* Question 4; finds the levels. */
+static bool find_levels(struct reader *r, struct table *t)
 {
     for (unsigned l = 0; l < t->contacts; l++) {
-        if (at == length || file[at] != 3)
+        struct field f;
+        if (!take(r, 3, 2, 16, &f) || f.length % 2 != 0)
             return false;
-        unsigned size = two_bytes(file + at + 1);
-        if (size < 2 || size > 16 || size % 2 != 0)
-            return false;
-        t->width[l] = size / 2;
-        t->edge[l] = file + at + 3;
-        at += 3 + size;
+        t->width[l] = f.length / 2;
+        t->edge[l] = f.value;
     }
     t->width[t->contacts] = 2;
-    return at == length;
+    return at_end(r);
 }
 
 static bool all_below(const uint8_t *number, unsigned count, unsigned limit)
@@ -123,16 +158,17 @@ static bool nodes_in_order(const struct table *t)
 
 static uint32_t read_table(const uint8_t *file, size_t length, struct table *t)
 {
-    if (!whole_fields(file, length))
+    struct reader r = {file, file + length};
+    struct field outputs;
+    if (!whole_fields(r))
         return 1;
-    if (!is_contacts(file, length))
+    if (!take_contacts(&r, &t->contacts))
         return 2;
-    if (length == 4 || file[4] != 2 || two_bytes(file + 5) < 1 || two_bytes(file + 5) > 8)
+    if (!take(&r, 2, 1, 8, &outputs))
         return 3;
-    t->contacts = file[3];
-    t->outputs = two_bytes(file + 5);
-    t->output = file + 7;
-    if (!find_levels(file, length, 7 + t->outputs, t))
+    t->outputs = outputs.length;
+    t->output = outputs.value;
+    if (!find_levels(&r, t))
         return 4;
     if (!nodes_named(t))
         return 5;
@@ -288,26 +324,20 @@ struct netlist {
 /* Question 11. */
 static bool netlist_fields(const uint8_t *file, size_t length, struct netlist *n)
 {
-    if (!is_contacts(file, length) || length < 7 || file[4] != 4)
+    struct reader r = {file, file + length};
+    struct field gate, output, lamp;
+    unsigned contacts;
+    if (!take_contacts(&r, &contacts) || !take(&r, 4, 0, 5 * MOST_GATES, &gate) || gate.length % 5 != 0 ||
+        !take(&r, 5, 4, 32, &output) || output.length % 4 != 0)
         return false;
-    size_t gate_bytes = two_bytes(file + 5);
-    if (gate_bytes % 5 != 0 || gate_bytes > 5 * MOST_GATES || length < 10 + gate_bytes)
-        return false;
-    const uint8_t *third = file + 7 + gate_bytes;
-    size_t output_bytes = two_bytes(third + 1);
-    if (third[0] != 5 || output_bytes % 4 != 0 || output_bytes < 4 || output_bytes > 32 || length < 10 + gate_bytes + output_bytes)
-        return false;
-    size_t rest = length - 10 - gate_bytes - output_bytes;
-    const uint8_t *last = third + 3 + output_bytes;
-    if (rest != 0 && (rest != 7 || last[0] != 6 || two_bytes(last + 1) != 4))
-        return false;
-    n->first = 2 + 2u * file[3];
-    n->lines = n->first + (unsigned)gate_bytes / 5;
-    n->outputs = (unsigned)output_bytes / 4;
-    n->gate = file + 7;
-    n->output = third + 3;
-    n->lamp = rest == 0 ? NULL : last + 3;
-    return true;
+    n->first = 2 + 2 * contacts;
+    n->lines = n->first + gate.length / 5;
+    n->outputs = output.length / 4;
+    n->gate = gate.value;
+    n->output = output.value;
+    bool more = next_field(&r, &lamp);
+    n->lamp = more ? lamp.value : NULL;
+    return (!more || (lamp.tag == 6 && lamp.length == 4)) && at_end(&r);
 }
 
 /* The lamp's pair comes after those of the outputs. */
@@ -365,35 +395,34 @@ pilgodur_checked plain_check(const uint8_t *table, size_t table_len)
     return (pilgodur_checked){0, t.contacts, t.outputs, gate_count, largest};
 }
 
-pilgodur_built plain_build(const uint8_t *table, size_t table_len, uint8_t *file, size_t file_len)
+static pilgodur_built build(const uint8_t *table, size_t table_len, uint8_t *file, size_t file_len, bool with_lamp)
 {
     struct table t;
     struct matrix whole;
+    struct pair lamp;
     uint32_t refusal = read_table(table, table_len, &t);
     if (refusal != 0)
         return (pilgodur_built){refusal, 0};
     make_gates(&t, &whole);
-    if (file_len < file_length(&t))
+    if (with_lamp)
+        lamp = make_lamp(&t, &whole, t.output, t.outputs);
+    size_t length = file_length(&t) + (with_lamp ? 7 : 0);
+    if (file_len < length)
         return (pilgodur_built){9, 0};
-    write_file(&t, &whole, file);
-    return (pilgodur_built){0, (uint32_t)file_length(&t)};
+    file = write_file(&t, &whole, file);
+    if (with_lamp)
+        put_two(put_two(put_head(file, 6, 4), lamp.yes), lamp.no);
+    return (pilgodur_built){0, (uint32_t)length};
+}
+
+pilgodur_built plain_build(const uint8_t *table, size_t table_len, uint8_t *file, size_t file_len)
+{
+    return build(table, table_len, file, file_len, false);
 }
 
 pilgodur_built plain_build_with_lamp(const uint8_t *table, size_t table_len, uint8_t *file, size_t file_len)
 {
-    struct table t;
-    struct matrix whole;
-    uint32_t refusal = read_table(table, table_len, &t);
-    if (refusal != 0)
-        return (pilgodur_built){refusal, 0};
-    make_gates(&t, &whole);
-    struct pair lamp = make_lamp(&t, &whole, t.output, t.outputs);
-    size_t length = file_length(&t) + 7;
-    if (file_len < length)
-        return (pilgodur_built){9, 0};
-    file = put_head(write_file(&t, &whole, file), 6, 4);
-    put_two(put_two(file, lamp.yes), lamp.no);
-    return (pilgodur_built){0, (uint32_t)length};
+    return build(table, table_len, file, file_len, true);
 }
 
 pilgodur_reading plain_read_off(const uint8_t *table, size_t table_len, uint32_t input)
@@ -615,15 +644,13 @@ static bool leads_up(const struct drawing *d, unsigned level, unsigned edge)
 /* Question 16. */
 static bool read_drawing(const uint8_t *file, size_t length, struct drawing *d)
 {
-    if (!is_contacts(file, length) || length < 7 || file[4] != 2 || two_bytes(file + 5) < 1 || two_bytes(file + 5) > 8)
+    struct reader r = {file, file + length};
+    struct field outputs, nodes;
+    unsigned contacts;
+    if (!take_contacts(&r, &contacts) || !take(&r, 2, 1, 8, &outputs) || !take(&r, 7, 0, 3 * MOST_NODES, &nodes) ||
+        nodes.length % 3 != 0 || !at_end(&r))
         return false;
-    size_t last = 7 + two_bytes(file + 5);
-    if (length < last + 3 || file[last] != 7)
-        return false;
-    size_t node_bytes = two_bytes(file + last + 1);
-    if (node_bytes % 3 != 0 || node_bytes > 3 * MOST_NODES || length != last + 3 + node_bytes)
-        return false;
-    *d = (struct drawing){file[3], (unsigned)last - 7, (unsigned)node_bytes / 3, file + 7, file + last + 3};
+    *d = (struct drawing){contacts, outputs.length, nodes.length / 3, outputs.value, nodes.value};
     for (unsigned i = 0; i < d->nodes; i++) {
         const uint8_t *node = d->node + 3 * i;
         if (node[0] >= d->contacts || !leads_up(d, node[0], node[1]) || !leads_up(d, node[0], node[2]))

@@ -1,5 +1,5 @@
 /* Prints the gate sheet of a netlist: reads the netlist from standard input and writes its sheet to standard output, or just the
- * number of the refusal and a line feed.
+ * number of the refusal and a line feed. An input of more than 65,536 bytes, notes among them, is refused with 11.
  *
  *     sheet <NETLIST                   exit status 0: a sheet; 1: a refusal; 2: bad usage; 3: a read or a write failed */
 #define _XOPEN_SOURCE 700
@@ -13,8 +13,8 @@
 #include "report.h"
 #include "save.h"
 
-/* A byte more than the longest netlist. An input that is longer is cut off there: question 11 says no to it either way. */
-enum { ROOM = PILGODUR_FILE_MAX + 1 };
+/* The most bytes of an input, and room for one more, by which a longer input is known. */
+enum { MOST = 65536, ROOM = MOST + 1 };
 
 const char program_name[] = "sheet";
 
@@ -42,7 +42,9 @@ int main(int argc, char **argv)
         return MISUSED;
     }
     size_t length = read_netlist(netlist);
-    pilgodur_built sheet = pilgodur_sheet(netlist, length, (uint8_t *)text, sizeof text);
+    pilgodur_built sheet = {PILGODUR_REFUSAL_NETLIST, 0};
+    if (length <= MOST)
+        sheet = pilgodur_sheet(netlist, length, (uint8_t *)text, sizeof text);
     length = sheet.length;
     if (sheet.refusal != 0)
         length = (size_t)snprintf(text, sizeof text, "%" PRIu32 "\n", sheet.refusal);

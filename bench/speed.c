@@ -29,10 +29,20 @@ static const struct {
                  pilgodur_sheet, pilgodur_from_drawing},
 };
 
+static uint64_t check(enum side side, const uint8_t *table, size_t length)
+{
+    pilgodur_checked r = services[side].check(table, length);
+    return r.refusal + 100 * r.contacts + 10000 * r.outputs + 100000 * r.gates + ((uint64_t)r.depth << 32);
+}
+
 static uint64_t do_check(enum side side, const struct job *j)
 {
-    pilgodur_checked r = services[side].check(j->table, j->table_length);
-    return r.refusal + 100 * r.contacts + 10000 * r.outputs + 100000 * r.gates + ((uint64_t)r.depth << 32);
+    return check(side, j->table, j->table_length);
+}
+
+static uint64_t do_check_noted(enum side side, const struct job *j)
+{
+    return check(side, j->noted, j->noted_length);
 }
 
 static uint64_t do_build(enum side side, const struct job *j)
@@ -53,10 +63,20 @@ static uint64_t do_read_off(enum side side, const struct job *j)
     return r.refusal + 100 * (uint64_t)r.word;
 }
 
+static uint64_t run(enum side side, const struct job *j, const uint8_t *netlist, size_t length)
+{
+    return services[side].run(netlist, length, j->rails, 2 * j->contacts, j->holds, j->holds_length, written[side],
+                              PILGODUR_LINES_MAX, written[side] + PILGODUR_LINES_MAX, PILGODUR_PAIRS_MAX);
+}
+
 static uint64_t do_run(enum side side, const struct job *j)
 {
-    return services[side].run(j->netlist, j->netlist_length, j->rails, 2 * j->contacts, j->holds, j->holds_length, written[side],
-                              PILGODUR_LINES_MAX, written[side] + PILGODUR_LINES_MAX, PILGODUR_PAIRS_MAX);
+    return run(side, j, j->netlist, j->netlist_length);
+}
+
+static uint64_t do_run_noted(enum side side, const struct job *j)
+{
+    return run(side, j, j->noted, j->noted_length);
 }
 
 static uint64_t do_probe(enum side side, const struct job *j)
@@ -81,16 +101,36 @@ static uint64_t do_probe_lines(enum side side, const struct job *j)
     return sum;
 }
 
+static uint64_t sheet(enum side side, const uint8_t *netlist, size_t length)
+{
+    pilgodur_built r = services[side].sheet(netlist, length, written[side], BUFFER);
+    return r.refusal + 100 * (uint64_t)r.length;
+}
+
 static uint64_t do_sheet(enum side side, const struct job *j)
 {
-    pilgodur_built r = services[side].sheet(j->netlist, j->netlist_length, written[side], BUFFER);
+    return sheet(side, j->netlist, j->netlist_length);
+}
+
+static uint64_t do_sheet_noted(enum side side, const struct job *j)
+{
+    return sheet(side, j->noted, j->noted_length);
+}
+
+static uint64_t from_drawing(enum side side, const uint8_t *drawing, size_t length)
+{
+    pilgodur_built r = services[side].from_drawing(drawing, length, written[side], BUFFER);
     return r.refusal + 100 * (uint64_t)r.length;
 }
 
 static uint64_t do_from_drawing(enum side side, const struct job *j)
 {
-    pilgodur_built r = services[side].from_drawing(j->drawing, j->drawing_length, written[side], BUFFER);
-    return r.refusal + 100 * (uint64_t)r.length;
+    return from_drawing(side, j->drawing, j->drawing_length);
+}
+
+static uint64_t do_from_drawing_noted(enum side side, const struct job *j)
+{
+    return from_drawing(side, j->noted, j->noted_length);
 }
 
 /* ---- The rows. ---- */
@@ -213,6 +253,31 @@ static void add_drawings(void)
     add_row("from-drawing, 12 contacts, 200 nodes, refused by 17", do_from_drawing, 1);
 }
 
+/* Small files, so that the notes take nearly all of the time. */
+static void add_notes(void)
+{
+    static const struct {
+        unsigned notes, size;
+        const char *text;
+    } kinds[] = {{5000, 0, "5,000 empty notes"}, {10000, 0, "10,000 empty notes"}, {20000, 0, "20,000 empty notes"},
+                 {1, 65535, "a note of 65,535 bytes"}};
+    use_largest_board(2);
+    for (unsigned k = 0; k < 4; k++) {
+        note_file(job.table, job.table_length, kinds[k].notes, kinds[k].size);
+        add_row(label("check, 2 contacts, %u gates, %s", job.gates, kinds[k].text), do_check_noted, 1);
+    }
+    use_random_netlist(0);
+    for (unsigned k = 0; k < 4; k++) {
+        note_file(job.netlist, job.netlist_length, kinds[k].notes, kinds[k].size);
+        add_row(label("run, no gates, %s", kinds[k].text), do_run_noted, 1);
+    }
+    note_file(job.netlist, job.netlist_length, 20000, 0);
+    add_row("sheet, no gates, 20,000 empty notes", do_sheet_noted, 1);
+    use_empty_drawing(1, 1);
+    note_file(job.drawing, job.drawing_length, 20000, 0);
+    add_row("from-drawing, 1 contact, no nodes, 20,000 empty notes", do_from_drawing_noted, 1);
+}
+
 int main(void)
 {
     printf("Processor time for one call in microseconds, in the fastest of %d rounds, and the library's time divided by\n"
@@ -227,5 +292,6 @@ int main(void)
     add_probes();
     add_sheets();
     add_drawings();
+    add_notes();
     return measure_rows() == 1 ? 3 : 0;
 }

@@ -18,6 +18,24 @@ static unsigned two_bytes(const uint8_t *at)
     return (unsigned)at[0] << 8 | at[1];
 }
 
+/* The place of the first field from a place on that is no note; past the file's end if a note is cut short. */
+static size_t pass_notes(const uint8_t *file, size_t length, size_t at)
+{
+    while (at + 3 <= length && file[at] >= PILGODUR_NOTE_TAG)
+        at += 3 + two_bytes(file + at + 1);
+    return at < length && file[at] >= PILGODUR_NOTE_TAG ? length + 1 : at;
+}
+
+/* The place of the field after the first one that is no note, which must be of tag 1, length 1 and value 1 to 12; 0 if it is not. */
+static size_t pass_contacts(const uint8_t *file, size_t length, unsigned *contacts)
+{
+    size_t at = pass_notes(file, length, 0);
+    if (at + 4 > length || file[at] != 1 || file[at + 1] != 0 || file[at + 2] != 1 || file[at + 3] - 1u > 11)
+        return 0;
+    *contacts = file[at + 3];
+    return pass_notes(file, length, at + 4);
+}
+
 /* ---- The table's questions: each level is looked at once for all of them. ---- */
 
 static bool whole_fields(const uint8_t *file, size_t length)
@@ -34,21 +52,21 @@ static bool whole_fields(const uint8_t *file, size_t length)
 /* Questions 2 to 4. A table that passes has whole fields, so question 1 is asked of the others alone. */
 static uint32_t find_fields(const uint8_t *file, size_t length, struct table *t)
 {
-    if (length < 4 || file[0] != 1 || file[1] != 0 || file[2] != 1 || file[3] - 1u > 11)
+    size_t at = pass_contacts(file, length, &t->contacts);
+    if (at == 0)
         return 2;
-    if (length < 8 || file[4] != 2 || file[5] != 0 || file[6] - 1u > 7)
+    if (at + 4 > length || file[at] != 2 || file[at + 1] != 0 || file[at + 2] - 1u > 7)
         return 3;
-    size_t at = 7 + (size_t)file[6];
-    for (unsigned l = 0; l < file[3]; l++) {
+    t->outputs = file[at + 2];
+    t->output = file + at + 3;
+    at = pass_notes(file, length, at + 3 + t->outputs);
+    for (unsigned l = 0; l < t->contacts; l++) {
         if (at + 3 > length || file[at] != 3 || file[at + 1] != 0 || file[at + 2] - 2u > 14 || file[at + 2] % 2 != 0)
             return 4;
         t->width[l] = file[at + 2] / 2;
         t->edge[l] = file + at + 3;
-        at += 3 + (size_t)file[at + 2];
+        at = pass_notes(file, length, at + 3 + file[at + 2]);
     }
-    t->contacts = file[3];
-    t->outputs = file[6];
-    t->output = file + 7;
     t->width[t->contacts] = 2;
     return at == length ? 0 : 4;
 }
@@ -366,34 +384,44 @@ pilgodur_reading tuned_read_off(const uint8_t *table, size_t table_len, uint32_t
 
 /* ---- Run: the gates are checked and worked out in one pass, into an array aside; no branch hangs on a value. ---- */
 
-/* Question 11. Finds how many gates and outputs there are, and the lamp's lines, or NULL if there is no lamp. */
-static bool netlist_fields(const uint8_t *file, size_t length, unsigned *gates, unsigned *outputs, const uint8_t **lamp)
+/* A netlist whose gates and pairs are read where the caller's bytes stand. */
+struct netlist {
+    unsigned contacts, gates, outputs;
+    const uint8_t *gate, *output;
+    const uint8_t *lamp; /* NULL if there is none */
+};
+
+/* Question 11. */
+static bool netlist_fields(const uint8_t *file, size_t length, struct netlist *n)
 {
-    if (length < 7 || file[0] != 1 || file[1] != 0 || file[2] != 1 || file[3] - 1u > 11 || file[4] != 4)
+    size_t at = pass_contacts(file, length, &n->contacts);
+    if (at == 0 || at + 3 > length || file[at] != 4)
         return false;
-    size_t gate_bytes = two_bytes(file + 5);
-    if (gate_bytes % 5 != 0 || gate_bytes > 5 * MOST_GATES || length < 10 + gate_bytes)
+    unsigned gate_bytes = two_bytes(file + at + 1);
+    n->gates = gate_bytes / 5;
+    n->gate = file + at + 3;
+    at = pass_notes(file, length, at + 3 + gate_bytes);
+    if (gate_bytes % 5 != 0 || n->gates > MOST_GATES || at + 3 > length || file[at] != 5)
         return false;
-    const uint8_t *third = file + 7 + gate_bytes, *last;
-    size_t output_bytes = two_bytes(third + 1);
-    if (third[0] != 5 || output_bytes % 4 != 0 || output_bytes < 4 || output_bytes > 32)
+    unsigned output_bytes = two_bytes(file + at + 1);
+    n->outputs = output_bytes / 4;
+    n->output = file + at + 3;
+    at = pass_notes(file, length, at + 3 + output_bytes);
+    if (output_bytes % 4 != 0 || n->outputs - 1 > 7)
         return false;
-    *gates = (unsigned)gate_bytes / 5;
-    *outputs = (unsigned)output_bytes / 4;
-    *lamp = NULL;
-    if (length == 10 + gate_bytes + output_bytes)
+    n->lamp = NULL;
+    if (at == length)
         return true;
-    last = third + 3 + output_bytes;
-    *lamp = last + 3;
-    return length == 17 + gate_bytes + output_bytes && last[0] == 6 && last[1] == 0 && last[2] == 4;
+    n->lamp = file + at + 3;
+    return at + 7 <= length && file[at] == 6 && file[at + 1] == 0 && file[at + 2] == 4 && pass_notes(file, length, at + 7) == length;
 }
 
-static bool pairs_good(const uint8_t *output, unsigned outputs, const uint8_t *lamp, unsigned lines)
+static bool pairs_good(const struct netlist *n, unsigned lines)
 {
-    for (unsigned k = 0; k < 2 * outputs; k++)
-        if (two_bytes(output + 2 * k) >= lines)
+    for (unsigned k = 0; k < 2 * n->outputs; k++)
+        if (two_bytes(n->output + 2 * k) >= lines)
             return false;
-    return lamp == NULL || (two_bytes(lamp) < lines && two_bytes(lamp + 2) < lines);
+    return n->lamp == NULL || (two_bytes(n->lamp) < lines && two_bytes(n->lamp + 2) < lines);
 }
 
 static bool rails_good(const uint8_t *rails, size_t count)
@@ -446,12 +474,10 @@ uint32_t tuned_run(const uint8_t *netlist, size_t netlist_len, const uint8_t *ra
                    uint8_t *pairs, size_t pairs_len)
 {
     uint8_t value[PILGODUR_LINES_MAX], mark[PILGODUR_LINES_MAX];
-    unsigned gates, outputs;
-    const uint8_t *lamp;
-    if (!netlist_fields(netlist, netlist_len, &gates, &outputs, &lamp))
+    struct netlist n;
+    if (!netlist_fields(netlist, netlist_len, &n))
         return 11;
-    unsigned first = 2 + 2u * netlist[3], count = first + gates;
-    const uint8_t *output = netlist + 10 + 5 * (size_t)gates;
+    unsigned first = 2 + 2 * n.contacts, count = first + n.gates;
     bool driven = rails_len == first - 2 && rails_good(rails, first - 2);
     bool ordered = holds_good(holds, holds_len, count);
     memset(mark, 0, count);
@@ -461,17 +487,17 @@ uint32_t tuned_run(const uint8_t *netlist, size_t netlist_len, const uint8_t *ra
     value[1] = 1;
     for (unsigned line = 2; line < first; line++)
         value[line] = shown[mark[line] + (driven ? 2 * rails[line - 2] : 0)];
-    if (!work_out(netlist + 7, first, count, mark, value) || !pairs_good(output, outputs, lamp, count))
+    if (!work_out(n.gate, first, count, mark, value) || !pairs_good(&n, count))
         return 12;
     if (!driven || !ordered)
         return driven ? 14 : 13;
-    if (lines_len < count || pairs_len < 2 * (outputs + (lamp != NULL)))
+    if (lines_len < count || pairs_len < 2 * (n.outputs + (n.lamp != NULL)))
         return 9;
     memcpy(lines, value, count);
-    for (unsigned k = 0; k < 2 * outputs; k++)
-        pairs[k] = value[two_bytes(output + 2 * k)];
-    for (unsigned k = 0; lamp != NULL && k < 2; k++)
-        pairs[2 * outputs + k] = value[two_bytes(lamp + 2 * k)];
+    for (unsigned k = 0; k < 2 * n.outputs; k++)
+        pairs[k] = value[two_bytes(n.output + 2 * k)];
+    for (unsigned k = 0; n.lamp != NULL && k < 2; k++)
+        pairs[2 * n.outputs + k] = value[two_bytes(n.lamp + 2 * k)];
     return 0;
 }
 
@@ -700,22 +726,20 @@ static uint8_t *put_pair_row(uint8_t *at, unsigned before, unsigned number, uint
 
 pilgodur_built tuned_sheet(const uint8_t *netlist, size_t netlist_len, uint8_t *text, size_t text_len)
 {
-    unsigned gates, outputs;
-    const uint8_t *lamp;
-    if (!netlist_fields(netlist, netlist_len, &gates, &outputs, &lamp))
+    struct netlist n;
+    if (!netlist_fields(netlist, netlist_len, &n))
         return (pilgodur_built){11, 0};
-    unsigned first = 2 + 2u * netlist[3], rows = gates + outputs + (lamp != NULL);
-    const uint8_t *output = netlist + 10 + 5 * (size_t)gates;
-    if (!gates_good(netlist + 7, first, first + gates) || !pairs_good(output, outputs, lamp, first + gates))
+    unsigned first = 2 + 2 * n.contacts, rows = n.gates + n.outputs + (n.lamp != NULL);
+    if (!gates_good(n.gate, first, first + n.gates) || !pairs_good(&n, first + n.gates))
         return (pilgodur_built){12, 0};
     uint32_t length = ROW * (rows + (rows + PAGE - 1) / PAGE);
     if (text_len < length)
         return (pilgodur_built){9, 0};
-    uint8_t *at = put_gate_rows(text, netlist + 7, gates, first);
-    for (unsigned j = 0; j < outputs; j++)
-        at = put_pair_row(at, gates + j, j, kind_text[2], output + 4 * j);
-    if (lamp != NULL)
-        put_pair_row(at, gates + outputs, 0, kind_text[3], lamp);
+    uint8_t *at = put_gate_rows(text, n.gate, n.gates, first);
+    for (unsigned j = 0; j < n.outputs; j++)
+        at = put_pair_row(at, n.gates + j, j, kind_text[2], n.output + 4 * j);
+    if (n.lamp != NULL)
+        put_pair_row(at, n.gates + n.outputs, 0, kind_text[3], n.lamp);
     return (pilgodur_built){0, length};
 }
 
@@ -731,15 +755,18 @@ struct drawing {
 
 static bool find_nodes(const uint8_t *file, size_t length, struct drawing *d)
 {
-    if (length < 8 || file[0] != 1 || file[1] != 0 || file[2] != 1 || file[3] - 1u > 11 || file[4] != 2 || file[5] != 0 ||
-        file[6] - 1u > 7)
+    size_t at = pass_contacts(file, length, &d->contacts);
+    if (at == 0 || at + 4 > length || file[at] != 2 || file[at + 1] != 0 || file[at + 2] - 1u > 7)
         return false;
-    size_t last = 7 + (size_t)file[6];
-    if (length < last + 3 || file[last] != 7)
+    d->outputs = file[at + 2];
+    d->output = file + at + 3;
+    at = pass_notes(file, length, at + 3 + d->outputs);
+    if (at + 3 > length || file[at] != 7)
         return false;
-    unsigned size = two_bytes(file + last + 1);
-    *d = (struct drawing){file[3], file[6], size / 3, file + 7, file + last + 3};
-    return size % 3 == 0 && size <= 3 * MOST_NODES && length == last + 3 + size;
+    unsigned size = two_bytes(file + at + 1);
+    d->nodes = size / 3;
+    d->node = file + at + 3;
+    return size % 3 == 0 && size <= 3 * MOST_NODES && pass_notes(file, length, at + 3 + size) == length;
 }
 
 /* Question 16. A number that is not listed has level 0, to which no edge may lead. Of nodes whose level is not below n the one with

@@ -15,6 +15,9 @@
  *            tag 7, three bytes for each node (0 to 200): its level (0 to n-1), its 0-edge and its 1-edge. Numbers 0 and 1 are the
  *            constants false and true, 2 is the first node. A node of level l looks at contact l. An edge leads to a constant or
  *            to a node of a higher level, and may skip levels; nodes may be alike, and nothing need mention a node.
+ *   Notes:   tags 128 to 255, any length and value. A field of such a tag may stand anywhere in a table, netlist or drawing, also first
+ *            or last, any number of times. Every service answers as for the file without its notes, and writes none. A note
+ *            that is cut short is a field cut short.
  *
  * LINES. 0 and 1 are the constants. The true rail of contact i is 2+2i, its false rail 3+2i. Gate g, counted from 0, is 2+2n+g.
  * A netlist with n contacts and g gates has 2+2n+g lines. A pair is written true rail first: 10 is yes, 01 is no, 00 and 11 are
@@ -40,7 +43,8 @@
  *   Outputs: then a row for each: its number from 0 up, OUT, its true line, its false line.
  *   Lamp:    then, if there is one, a row: 0, LMP, its true line, its false line.
  *   Heading: " LINE KIN     A     B" and a line feed, before row 1, row 51, row 101 and so on, all of these rows counted together.
- * A sheet of r rows has 22 * (r + (r + 49) / 50) bytes. It determines the netlist once the count of contacts is given.
+ * A sheet of r rows has 22 * (r + (r + 49) / 50) bytes. It determines the netlist without its notes once the count of contacts
+ * is given.
  *
  * REFUSALS. Each service asks its questions in the sequence stated with it; the first no gives its number, and 0 is an answer. The
  * questions stand below, in PILGODUR_QUESTIONS. A refusal leaves every lent byte as it came, and every other number returned is 0.
@@ -62,13 +66,16 @@
 extern "C" {
 #endif
 
-#define PILGODUR_VERSION "2.2.0"
+#define PILGODUR_VERSION "2.3.0"
 #define PILGODUR_VERSION_MAJOR 2
-#define PILGODUR_VERSION_MINOR 2
+#define PILGODUR_VERSION_MINOR 3
 #define PILGODUR_VERSION_PATCH 0
 
+/* The first tag of notes; the last is 255. */
+#define PILGODUR_NOTE_TAG 128
+
 /* The questions, as Q(number, name, text) for each. A no to question 6 is the refusal 6, PILGODUR_REFUSAL_TWINS. Number 8 is never
- * given. The holds of question 14 are just one for probe. */
+ * given. The holds of question 14 are just one for probe. Notes are not counted among the fields, but they must be whole, too. */
 #define PILGODUR_QUESTIONS(Q) \
     Q(1, PILGODUR_REFUSAL_FIELDS, "Do the bytes split into whole fields with nothing left over?") \
     Q(2, PILGODUR_REFUSAL_CONTACTS, "Is the first field tag 1, length 1, value 1 to 12?") \
@@ -102,7 +109,7 @@ enum pilgodur_way { PILGODUR_WAY_BOTH_LOW = 0, PILGODUR_WAY_BOTH_HIGH = 1 };
 
 /* Buffers of these lengths are always long enough. For probe's the first two together are: its board is the plain one, without the
  * lamp, and needs 52,842 and 10,586 bytes at most. */
-#define PILGODUR_FILE_MAX 53059 /* a netlist file: 4 + (3 + 5 * 10602) + (3 + 4 * 8) + (3 + 4) */
+#define PILGODUR_FILE_MAX 53059 /* a netlist file without notes: 4 + (3 + 5 * 10602) + (3 + 4 * 8) + (3 + 4) */
 #define PILGODUR_LINES_MAX 10628 /* the lines of a netlist: 2 + 2 * 12 + 10602 */
 #define PILGODUR_PAIRS_MAX 18 /* two bytes an output, and two for the lamp */
 #define PILGODUR_SHEET_MAX 238128 /* a gate sheet: 22 * (10602 + 8 + 1) for the rows, 22 * 213 for the headings */

@@ -550,6 +550,141 @@ try export $q6 --blif
 try export $q11 --blif
 judge
 
+# noted FILE NOTE: the hex: text of a file with this note, in hex digits, before each field and after the last.
+noted() {
+    od -An -v -tx1 "$1" | tr -d ' \n' | awk -v note="$2" '
+        function number(digits, sum) {
+            for (i = 1; i <= 4; i++)
+                sum = 16 * sum + index("0123456789abcdef", substr(digits, i, 1)) - 1
+            return sum
+        }
+        {
+            for (at = 1; at <= length($0); at += size) {
+                size = 2 * (3 + number(substr($0, at + 2, 4)))
+                text = text note substr($0, at, size)
+            }
+            print "hex:" text note
+        }'
+}
+# raw HEX: the bytes of hex: text.
+raw() {
+    # shellcheck disable=SC2059
+    printf "$(echo "${1#hex:}" | awk '{
+        for (at = 1; at < length($0); at += 2)
+            printf "\\%03o", 16 * index("123456789abcdef", substr($0, at, 1)) + index("123456789abcdef", substr($0, at + 1, 1))
+    }')"
+}
+# every_byte: a note of all bytes.
+every_byte() {
+    awk 'BEGIN { printf "hex:ff0100"; for (i = 0; i < 256; i++) printf "%02x", i }'
+}
+
+transcript notes
+try notes selector.table
+try notes selector.netlist
+try notes hex:
+try notes "$selector_drawing"
+try notes hex:8000044f722037
+try notes hex:010001010200010003000200018000044f722037
+try notes hex:800000ff00012281000220200100010104000005000400020003c000025c6e
+pipe 'noted selector.table 900005440d0a2037 >noted.table; pilgodur notes noted.table'
+pipe 'every_byte | pilgodur notes -'
+pipe 'every_byte >every.hex; pilgodur notes @every.hex | LC_ALL=C tr -d "\n -~" | wc -c'
+# The highest tag that is no note's; bytes that only look like a note, within a field.
+try notes hex:0100017f7f0000800001617f0000
+try notes hex:010003800000
+# Not whole: a note of one byte, of two, without its value, a byte short, with a length past the end; a field of another kind.
+for rest in 80 8000 800001 8000040102 80ffff00; do
+    try notes "hex:01000103$rest"
+done
+try notes $q1
+try notes hex:800001610100
+pipe '{ cat selector.netlist; printf "\200\000\003ab"; } >cut.netlist; pilgodur notes cut.netlist'
+try notes gallery.drawing
+pipe 'echo contacts | pilgodur notes -'
+try notes no-such.table
+try notes
+try notes selector.table -o out
+# Every other command sees a file without its notes: these stand before each field and after the last, and look like fields.
+note=80000701000104040000
+pipe 'noted selector.table $note >noted.table; noted selector.netlist $note >noted.netlist; noted lift-lamp.netlist $note >noted-lamp.netlist'
+pipe 'noted spare.table ff0000 >noted-spare.table; noted widest.netlist fe0003040000 >noted-widest.netlist'
+pipe '{ printf "\200\000\003a\nb"; cat selector.netlist; } >first.netlist; pilgodur notes first.netlist'
+pipe '{ printf "\200\000\004hex:"; cat selector.table; } >first.table; pilgodur notes first.table'
+try check noted.table
+try check noted-spare.table
+try check first.table
+pipe 'pilgodur build noted.table -o - | cmp - selector.netlist'
+pipe 'pilgodur build first.table -o - | cmp - selector.netlist'
+for file in noted.table noted.netlist first.netlist first.table; do
+    pipe "pilgodur list $file | cmp - \"\$root/tests/expected/sheet.txt\""
+done
+pipe 'pilgodur list noted-lamp.netlist | cmp - lift.sheet'
+pipe 'pilgodur list noted-widest.netlist | cksum'
+try compare noted.table noted.netlist
+try compare first.netlist selector.table
+try compare noted-lamp.netlist lift.table --lamp
+try compare noted-widest.netlist widest.table
+try read-off noted.table 3
+try run noted.netlist 6 10=0
+try run first.netlist contacts:110
+try run noted-lamp.netlist 5 30=0
+pipe 'pilgodur run noted-widest.netlist 4095 1383=0 1384=1 --lines | cksum'
+try run noted.netlist 8
+try probe noted.table 10=1
+try probe noted-spare.table 2=0
+pipe 'pilgodur dictionary noted.table >noted.csv; pilgodur dictionary selector.table | cmp - noted.csv'
+for format in --blif --verilog --dot; do
+    pipe "pilgodur export noted-lamp.netlist $format >noted.out; pilgodur export lift.table --lamp $format | cmp - noted.out"
+    pipe "pilgodur export noted.table $format >noted.out; pilgodur export selector.table $format | cmp - noted.out"
+done
+pipe 'raw "$selector_drawing" >selector.bytes; noted selector.bytes $note >noted.drawing; pilgodur notes noted.drawing'
+pipe 'pilgodur draw noted.drawing -o - | cmp - selector.table'
+pipe '{ printf "\377\000\001a"; cat selector.bytes; } | pilgodur draw -o - - | cmp - selector.table'
+# Text has no notes: within it the second line looks like the value of one.
+pipe 'printf "#\000\001 \200\000\ncontacts 1\noutputs a\na 0 0 1\n" | pilgodur draw -'
+# Rails are no file with notes.
+try run selector.netlist hex:800000000100010001
+# With a note that is cut short each file gets its own number, wherever the note stands.
+for cut in 80 80ffff 8000040102; do
+    try list "hex:0100010102000100030002000180000161$cut"
+    try list "hex:800000010001018100000400000500040002000380000161$cut"
+    try run "hex:80000001000101040000050004000200038000$cut" 0
+    try draw "hex:010001010200010080000007000080000161$cut"
+done
+try list hex:800010010001010400000500040002000380
+try draw hex:800010010001010200010007000080
+try draw hex:efbbbf
+try draw hex:01000101020001000700007f0000
+try list hex:010001017f0000040000050004000200037f0000
+# build --note: the note is the last field, with the lamp and without; an empty one; several; the longest; one that is too long.
+try build selector.table --note 'AB-17, sheet 3'
+try build single.table --note=x --lamp
+try build --note '' single.table
+try build single.table --note one --not two --note ''
+try build noted.table --note 'hex: \\ "new" ' -o noted.netlist
+pipe 'head -c 59 noted.netlist | cmp - selector.netlist'
+try notes noted.netlist
+try compare noted.netlist selector.table
+try build lift.table --lamp --note "$(printf 'zwei\nZeilen, \303\274')" -o noted.netlist
+try notes noted.netlist
+try list noted.netlist --lamp
+pipe 'pilgodur build single.table --note "$(head -c 65535 /dev/zero | tr "\0" x)" -o long.netlist; cksum <long.netlist'
+pipe 'pilgodur list long.netlist'
+pipe 'pilgodur notes long.netlist | wc -c'
+pipe 'pilgodur build single.table --note "$(head -c 65536 /dev/zero | tr "\0" x)" -o long.netlist'
+pipe 'cksum <long.netlist'
+try build $q6 --note x
+try build selector.table --note
+try build --note selector.table
+for command in 'draw gallery.drawing' 'check single.table' 'list single.table' 'compare single.table single.table' \
+    'read-off single.table 0' 'run selector.netlist 3' 'probe single.table 2=1' 'dictionary single.table' 'export single.table --dot' \
+    'notes single.table'; do
+    # shellcheck disable=SC2086
+    try $command --note x
+done
+judge
+
 transcript usage
 try --help
 pipe 'pilgodur --help >help; pilgodur -h | cmp - help'

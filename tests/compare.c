@@ -1,11 +1,12 @@
 /* Compares the library with the reference, call by call, on boards with spare contacts in every place, on lamps of every count of
- * outputs and of every damage, on drawings of every kind and on random cases, and asks the demands of boards that the library builds
- * and of tables that it makes from drawings.
+ * outputs and of every damage, on drawings of every kind, on notes of every kind in every place and on random cases, and asks the
+ * demands of boards that the library builds and of tables that it makes from drawings.
  *
  *     compare [SEED [CASES]]
  *
  * A case is one call of one service. Both sides get the same bytes, each string between guards, and every byte of every string is
- * looked at afterwards. Exit status 0: no differences and every number was hit; 1: not so; 2: bad usage. */
+ * looked at afterwards. In a good share of the cases both sides get the file with notes put in as well, and must answer as without
+ * them. Exit status 0: no differences and every number was hit; 1: not so; 2: bad usage. */
 #define _GNU_SOURCE
 #include <errno.h>
 #include <inttypes.h>
@@ -22,14 +23,15 @@
 #include "reference.h"
 
 _Static_assert(PILGODUR_TABLE_MAX == TABLE_MAX, "the length of the longest table");
+_Static_assert(PILGODUR_NOTE_TAG == NOTE_TAG, "the first tag of notes");
 
 enum { STRINGS = 5, NUMBERS = 5, REFUSALS = 18, NOISE = 1 << 19, MOST_DIFFERENCES = 10 };
 enum service { CHECK, BUILD, BUILD_WITH_LAMP, READ_OFF, RUN, PROBE, SHEET, FROM_DRAWING, SERVICES };
-enum side { LIBRARY, REFERENCE, SIDES };
+enum side { LIBRARY, REFERENCE, NOTED_LIBRARY, NOTED_REFERENCE, SIDES };
 
 static const char *const service_names[SERVICES] = {"check", "build", "build-with-lamp", "read-off", "run", "probe", "sheet",
                                                      "from-drawing"};
-static const char *const side_names[SIDES] = {"library", "reference"};
+static const char *const side_names[SIDES] = {"library", "reference", "library, with notes", "reference, with notes"};
 static const unsigned string_counts[SERVICES] = {1, 2, 2, 1, 5, 3, 2, 2};
 static const unsigned number_counts[SERVICES] = {5, 2, 2, 2, 1, 4, 2, 2};
 static const char *const string_names[SERVICES][STRINGS] = {
@@ -66,6 +68,7 @@ struct call {
     size_t length[STRINGS];
     bool written[STRINGS]; /* a buffer */
     size_t need[STRINGS];  /* the bytes that an answer writes to it */
+    unsigned sides;        /* how many are asked: all, or those without notes */
 };
 
 struct answer {
@@ -78,7 +81,15 @@ static uint8_t noise[NOISE];
 static uint64_t seed = 1;
 static unsigned long cases;
 static unsigned long differences;
-static unsigned long hits[SERVICES][REFUSALS];
+static unsigned long hits[SERVICES][REFUSALS], noted_hits[SERVICES][REFUSALS];
+static struct file noted; /* the file of a call with notes put in */
+static struct {
+    unsigned percent; /* of the cases get notes */
+    bool any;         /* of any kind, in any place; else of this kind in this place */
+    enum note_kind kind;
+    unsigned place;
+} noting = {.percent = 35, .any = true};
+static unsigned long noted_kinds[NOTE_KINDS], noted_places[15], cut_notes[CUT_KINDS], damaged_notes, tags_passed, tags_refused;
 static unsigned long accepted_contacts[13], accepted_outputs[9], accepted_width[9], accepted_spare[13], spare_place[12];
 static unsigned long with_constant, all_constant, eleven_spare_of_12;
 static unsigned long sheets[SHEET_SIZES];
@@ -95,7 +106,7 @@ static char where[160]; /* what is being done, for the message after a fault */
 
 static struct answer perform(enum side side, const struct call *call)
 {
-    bool ours = side == LIBRARY;
+    bool ours = side == LIBRARY || side == NOTED_LIBRARY;
     const struct lent *s = lent[side];
     struct answer a = {{0}};
     if (call->service == CHECK) {
@@ -147,33 +158,51 @@ static const char *misuse(enum side side, const struct call *call, const struct 
     return NULL;
 }
 
-static const char *disagreement(const struct call *call, const struct answer *answers)
+static const char *disagreement(enum side side, const struct call *call, const struct answer *answers)
 {
-    if (memcmp(&answers[LIBRARY], &answers[REFERENCE], sizeof *answers) != 0)
-        return "the answers differ";
+    if (memcmp(&answers[LIBRARY], &answers[side], sizeof *answers) != 0)
+        return "the answer differs from the library's";
     for (unsigned k = 0; k < string_counts[call->service]; k++)
-        if (memcmp(lent[LIBRARY][k].bytes, lent[REFERENCE][k].bytes, call->length[k]) != 0)
-            return "the written bytes differ";
+        if (call->written[k] && memcmp(lent[LIBRARY][k].bytes, lent[side][k].bytes, call->length[k]) != 0)
+            return "the written bytes differ from the library's";
     return NULL;
 }
 
-static void print_string(const struct call *call, unsigned k)
+static void print_bytes(const uint8_t *bytes, size_t length)
 {
-    printf("  %s, %zu bytes", string_names[call->service][k], call->length[k]);
-    if (call->written[k]) {
+    printf(" hex:");
+    for (size_t i = 0; i < length; i++)
+        printf("%02x", bytes[i]);
+    printf("\n");
+}
+
+static void print_buffer(const struct call *call, unsigned k)
+{
+    for (unsigned side = 1; side < call->sides; side++) {
         const uint8_t *a = lent[LIBRARY][k].bytes;
-        const uint8_t *b = lent[REFERENCE][k].bytes;
+        const uint8_t *b = lent[side][k].bytes;
         size_t i = 0;
         while (i < call->length[k] && a[i] == b[i])
             i++;
         if (i < call->length[k])
-            printf(": first differ at byte %zu, library %02x, reference %02x", i, a[i], b[i]);
-    } else {
-        printf(" hex:");
-        for (size_t i = 0; i < call->length[k]; i++)
-            printf("%02x", call->content[k][i]);
+            printf(": first differ at byte %zu, library %02x, %s %02x", i, a[i], side_names[side], b[i]);
     }
     printf("\n");
+}
+
+static void print_strings(const struct call *call)
+{
+    for (unsigned k = 0; k < string_counts[call->service]; k++) {
+        printf("  %s, %zu bytes", string_names[call->service][k], call->length[k]);
+        if (call->written[k])
+            print_buffer(call, k);
+        else
+            print_bytes(call->content[k], call->length[k]);
+    }
+    if (call->sides == SIDES) {
+        printf("  %s with notes, %zu bytes", string_names[call->service][0], noted.length);
+        print_bytes(noted.bytes, noted.length);
+    }
 }
 
 static void stop_after_many(void)
@@ -184,62 +213,91 @@ static void stop_after_many(void)
     }
 }
 
-static void report(const struct call *call, const struct answer *answers, const char *who, const char *what)
+static void report(const struct call *call, const struct answer *answers, enum side who, const char *what)
 {
-    printf("difference in case %lu, seed %" PRIu64 ", %s: %s%s%s\n", cases, seed, service_names[call->service], who,
-           *who ? ": " : "", what);
-    for (unsigned side = 0; side < SIDES; side++) {
-        printf("  %-10s", side_names[side]);
+    printf("difference in case %lu, seed %" PRIu64 ", %s: %s: %s\n", cases, seed, service_names[call->service], side_names[who],
+           what);
+    for (unsigned side = 0; side < call->sides; side++) {
+        printf("  %-21s", side_names[side]);
         for (unsigned i = 0; i < number_counts[call->service]; i++)
             printf(" %s %" PRIu32, number_names[call->service][i], answers[side].number[i]);
         printf("\n");
     }
     if (call->service == READ_OFF)
         printf("  input %" PRIu32 "\n", call->input);
-    for (unsigned k = 0; k < string_counts[call->service]; k++)
-        print_string(call, k);
+    print_strings(call);
     differences++;
     stop_after_many();
 }
 
+/* Puts notes into the file of a call, if this case is to have them. The longest and the most notes are drawn less often. */
+static void note_some(struct call *call)
+{
+    static struct file file;
+    enum note_kind kind = noting.kind;
+    unsigned place = noting.place;
+    if (!chance(&dice, noting.percent))
+        return;
+    if (noting.any) {
+        kind = chance(&dice, 80) ? ANY_NOTE : chance(&dice, 90) ? EMPTY_NOTE : (enum note_kind)roll(&dice, NOTE_KINDS);
+        place = chance(&dice, 70) ? EVERYWHERE : roll(&dice, 15);
+    }
+    file.length = call->length[0];
+    memcpy(file.bytes, call->content[0], file.length);
+    put_notes(&dice, kind, place, &file, &noted);
+    call->sides = SIDES;
+    noted_kinds[kind]++;
+    if (place != EVERYWHERE)
+        noted_places[place]++;
+}
+
+static void lend_strings(enum side side, const struct call *call, const enum place *places)
+{
+    for (unsigned k = 0; k < string_counts[call->service]; k++) {
+        bool with_notes = k == 0 && side >= NOTED_LIBRARY;
+        lend(&lent[side][k], with_notes ? noted.bytes : call->content[k], with_notes ? noted.length : call->length[k], places[k]);
+    }
+}
+
 /* Returns the reference's number. */
-static uint32_t compare(const struct call *call)
+static uint32_t compare(struct call *call)
 {
     struct answer answers[SIDES];
     enum place places[STRINGS];
+    const char *what = NULL;
     cases++;
     snprintf(where, sizeof where, "case %lu, seed %" PRIu64 ", %s", cases, seed, service_names[call->service]);
     for (unsigned k = 0; k < STRINGS; k++)
         places[k] = (enum place)roll(&dice, PLACES);
-    for (unsigned side = 0; side < SIDES; side++) {
-        for (unsigned k = 0; k < string_counts[call->service]; k++)
-            lend(&lent[side][k], call->content[k], call->length[k], places[k]);
+    call->sides = NOTED_LIBRARY;
+    note_some(call);
+    for (unsigned side = 0; side < call->sides; side++) {
+        lend_strings((enum side)side, call, places);
         answers[side] = perform((enum side)side, call);
     }
-    const char *what = disagreement(call, answers);
-    if (what != NULL)
-        report(call, answers, "", what);
-    for (unsigned side = 0; side < SIDES && what == NULL; side++) {
-        what = misuse((enum side)side, call, &answers[side]);
+    for (unsigned side = 0; side < call->sides && what == NULL; side++) {
+        what = disagreement((enum side)side, call, answers);
+        what = what != NULL ? what : misuse((enum side)side, call, &answers[side]);
         if (what != NULL)
-            report(call, answers, side_names[side], what);
+            report(call, answers, (enum side)side, what);
     }
     uint32_t refusal = answers[REFERENCE].number[0];
-    if (what == NULL)
+    if (what == NULL) {
         hits[call->service][refusal]++;
+        noted_hits[call->service][refusal] += call->sides == SIDES;
+    }
     return refusal;
 }
 
 /* A case whose number is known beforehand. */
-static void expect(const struct call *call, uint32_t number)
+static void expect(struct call *call, uint32_t number)
 {
     uint32_t given = compare(call);
     if (given == number)
         return;
     printf("difference in case %lu, seed %" PRIu64 ", %s: the reference gives %" PRIu32 ", not %" PRIu32 "\n", cases, seed,
            service_names[call->service], given, number);
-    for (unsigned k = 0; k < string_counts[call->service]; k++)
-        print_string(call, k);
+    print_strings(call);
     differences++;
     stop_after_many();
 }
@@ -319,6 +377,21 @@ static void draw_diagram(struct diagram *diagram)
         random_diagram(&dice, contacts, 1 + roll(&dice, 8), diagram);
 }
 
+/* Puts notes into some files, and damages one of them in most. */
+static void damage_some_notes(struct file *file)
+{
+    static struct file plain;
+    if (!chance(&dice, 12))
+        return;
+    plain.length = file->length;
+    memcpy(plain.bytes, file->bytes, file->length);
+    put_notes(&dice, chance(&dice, 80) ? ANY_NOTE : NOTE_LIKE_FIELDS, EVERYWHERE, &plain, file);
+    if (chance(&dice, 80)) {
+        damage_note(&dice, file);
+        damaged_notes++;
+    }
+}
+
 /* A table: good, damaged, good but for some bytes, or random. */
 static void draw_table(struct file *table)
 {
@@ -336,11 +409,12 @@ static void draw_table(struct file *table)
         random_fields(&dice, table);
     else
         random_bytes(&dice, table);
+    damage_some_notes(table);
 }
 
 static uint32_t draw_input(const struct file *table)
 {
-    unsigned contacts = table->length > 3 ? table->bytes[3] % 16 : 3;
+    unsigned contacts = table->length > 3 ? contacts_of(table) % 16 : 3;
     unsigned kind = roll(&dice, 100);
     if (kind < 80)
         return roll(&dice, 1u << contacts);
@@ -423,6 +497,7 @@ static void damage_some(struct file *netlist)
         random_fields(&dice, netlist);
     else if (kind < 34)
         random_bytes(&dice, netlist);
+    damage_some_notes(netlist);
 }
 
 static void run_case(void)
@@ -676,6 +751,7 @@ static void drawing_case(void)
             random_fields(&dice, &file);
         else
             random_bytes(&dice, &file);
+        damage_some_notes(&file);
         drawing_call(&file);
     }
 }
@@ -726,8 +802,7 @@ static void build_services(const struct file *table, bool lamp)
 
 static void services_but_probe(const struct file *table)
 {
-    unsigned contacts = table->bytes[3];
-    struct call check = {.service = CHECK}, read_off = {.service = READ_OFF, .input = roll(&dice, 1u << contacts)};
+    struct call check = {.service = CHECK}, read_off = {.service = READ_OFF, .input = roll(&dice, 1u << contacts_of(table))};
     give(&check, 0, table);
     expect(&check, 0);
     give(&read_off, 0, table);
@@ -828,6 +903,143 @@ static void compare_lamps(unsigned outputs)
     for (unsigned kind = 0; kind < LAMP_DAMAGES; kind++)
         for (unsigned gates = 0; gates < 200; gates = 3 * gates + 1)
             expect_damaged_lamp((enum lamp_damage)kind, gates, outputs);
+}
+
+/* ---- Notes. ---- */
+
+/* Every service on a table that is refused with this number. */
+static void expect_refused_table(const struct file *table, uint32_t number)
+{
+    static struct file hold;
+    struct call check = {.service = CHECK}, read_off = {.service = READ_OFF}, probe = {.service = PROBE};
+    give(&check, 0, table);
+    expect(&check, number);
+    give(&read_off, 0, table);
+    expect(&read_off, number);
+    for (unsigned lamp = 0; lamp < 2; lamp++) {
+        struct call build = {.service = lamp ? BUILD_WITH_LAMP : BUILD};
+        give(&build, 0, table);
+        lend_noise(&build, 1, 0, PILGODUR_FILE_MAX);
+        expect(&build, number);
+    }
+    one_hold(&dice, 6, &hold);
+    give(&probe, 0, table);
+    give(&probe, 1, &hold);
+    lend_noise(&probe, 2, 0, PILGODUR_FILE_MAX);
+    expect(&probe, number);
+}
+
+/* A table, its netlist without the lamp and with it, and a drawing: the files that can have notes. */
+struct files {
+    struct diagram diagram;
+    struct file table, netlist[2], drawing;
+};
+
+static void draw_files(unsigned contacts, struct files *files)
+{
+    struct drawing drawing;
+    random_diagram(&dice, contacts, 1 + roll(&dice, 8), &files->diagram);
+    files->table.length = table_of(&files->diagram, files->table.bytes);
+    for (unsigned lamp = 0; lamp < 2; lamp++)
+        build_netlist(&files->table, lamp, &files->netlist[lamp]);
+    drawing_of(&files->diagram, &drawing);
+    files->drawing.length = write_drawing(&drawing, files->drawing.bytes);
+}
+
+/* A probe of some rail; nothing reads that of a spare contact. */
+static void expect_probed(const struct diagram *diagram, const struct file *table)
+{
+    static struct file hold, netlist;
+    struct call probe = {.service = PROBE};
+    unsigned contact = roll(&dice, diagram->contacts);
+    build_netlist(table, false, &netlist);
+    hold.length = 0;
+    add_hold(&hold, 2 + 2 * contact + roll(&dice, 2), roll(&dice, 2));
+    give(&probe, 0, table);
+    give(&probe, 1, &hold);
+    lend_noise(&probe, 2, netlist.length + lines_of(&netlist), netlist.length + lines_of(&netlist));
+    expect(&probe, is_spare(diagram, contact) ? 15 : 0);
+}
+
+/* Every service on files that are good; `table` is that of the drawing. */
+static void expect_good(const struct files *files, const struct file *table)
+{
+    services_but_probe(&files->table);
+    expect_probed(&files->diagram, &files->table);
+    for (unsigned lamp = 0; lamp < 2; lamp++)
+        services_on_netlist(&files->netlist[lamp]);
+    expect_drawing(&files->drawing, 0, table);
+}
+
+/* The same files, each refused with its number. */
+static void expect_all_refused(const struct files *files, uint32_t number)
+{
+    expect_refused_table(&files->table, number);
+    for (unsigned lamp = 0; lamp < 2; lamp++)
+        expect_refused(&files->netlist[lamp], 11);
+    expect_drawing(&files->drawing, 16, NULL);
+}
+
+/* Notes of every kind in every place: before each field, and after the last. Then nothing but such notes. */
+static void compare_notes_in_places(const struct files *files)
+{
+    static const struct files nothing;
+    noting.percent = 100;
+    noting.any = false;
+    for (unsigned kind = 0; kind < NOTE_KINDS; kind++) {
+        noting.kind = (enum note_kind)kind;
+        for (noting.place = 0; noting.place <= 2 + files->diagram.contacts; noting.place++)
+            expect_good(files, &files->table);
+        noting.place = 0;
+        expect_all_refused(&nothing, 2);
+    }
+    noting.percent = 35;
+    noting.any = true;
+}
+
+/* Each file with a note that is cut short. */
+static void compare_cut_notes(const struct files *good)
+{
+    static struct files files;
+    for (unsigned kind = 0; kind < CUT_KINDS; kind++) {
+        files = *good;
+        cut_note(&dice, (enum cut_kind)kind, &files.table);
+        cut_note(&dice, (enum cut_kind)kind, &files.netlist[0]);
+        cut_note(&dice, (enum cut_kind)kind, &files.netlist[1]);
+        cut_note(&dice, (enum cut_kind)kind, &files.drawing);
+        expect_all_refused(&files, 1);
+        cut_notes[kind]++;
+    }
+}
+
+/* Each file with a field of a tag more, in each place: tags from 128 on are passed over, the others are refused. Those of the files'
+ * own fields are left out. */
+static void compare_tags(const struct files *good)
+{
+    static struct files files;
+    for (unsigned tag = 0; tag < 256; tag++)
+        for (unsigned place = 0; place <= 2 + good->diagram.contacts && (tag == 0 || tag > 7); place++) {
+            files = *good;
+            put_field(&dice, tag, place, &files.table);
+            put_field(&dice, tag, place, &files.netlist[0]);
+            put_field(&dice, tag, place, &files.netlist[1]);
+            put_field(&dice, tag, place, &files.drawing);
+            if (tag < NOTE_TAG)
+                expect_all_refused(&files, place == 0 ? 2 : place == 1 ? 3 : 4);
+            else
+                expect_good(&files, &good->table);
+            *(tag < NOTE_TAG ? &tags_refused : &tags_passed) += 1;
+        }
+}
+
+static void compare_notes(unsigned contacts)
+{
+    static struct files files;
+    draw_files(contacts, &files);
+    compare_notes_in_places(&files);
+    compare_cut_notes(&files);
+    if (contacts == 2)
+        compare_tags(&files);
 }
 
 static void compare_small_board(void)
@@ -934,10 +1146,10 @@ static void random_case(void)
 
 /* ---- The summary. ---- */
 
-static bool print_hits(void)
+static bool print_hits(const char *title, unsigned long count[SERVICES][REFUSALS])
 {
     bool all = true;
-    printf("%-15s", "refusal");
+    printf("%-15s", title);
     for (unsigned number = 0; number < REFUSALS; number++)
         printf("%7u", number);
     printf("\n");
@@ -946,10 +1158,10 @@ static bool print_hits(void)
         for (unsigned number = 0; number < REFUSALS; number++) {
             bool can_be = possible[service] >> number & 1;
             if (can_be)
-                printf("%7lu", hits[service][number]);
+                printf("%7lu", count[service][number]);
             else
                 printf("%7s", "-");
-            all = all && (!can_be || hits[service][number] != 0);
+            all = all && (!can_be || count[service][number] != 0);
         }
         printf("\n");
     }
@@ -1020,10 +1232,20 @@ static bool print_drawings(void)
            drawn.unmentioned != 0 && drawn.constant_outputs != 0 && drawn.upward != 0 && drawn.downward != 0;
 }
 
+static bool print_notes(void)
+{
+    bool all = print_counts("files with notes by kind", noted_kinds, 0, NOTE_KINDS - 1);
+    all = print_counts("files with notes by place", noted_places, 0, 14) && all;
+    all = print_counts("notes cut short by kind", cut_notes, 0, CUT_KINDS - 1) && all;
+    printf("damaged notes: %lu, fields of a tag more: passed over %lu, refused %lu\n", damaged_notes, tags_passed, tags_refused);
+    return all && damaged_notes != 0 && tags_passed != 0 && tags_refused != 0;
+}
+
 static int summary(void)
 {
     printf("seed %" PRIu64 ", %lu cases\n", seed, cases);
-    bool all = print_hits();
+    bool all = print_hits("refusal", hits);
+    all = print_hits("with notes", noted_hits) && all;
     all = print_counts("accepted tables by contacts", accepted_contacts, 1, 12) && all;
     all = print_counts("accepted tables by outputs", accepted_outputs, 1, 8) && all;
     all = print_counts("accepted tables by largest width", accepted_width, 2, 8) && all;
@@ -1035,6 +1257,7 @@ static int summary(void)
     all = print_sheets() && all;
     all = print_lamps() && all;
     all = print_drawings() && all;
+    all = print_notes() && all;
     printf("boards checked by themselves: %lu, with %lu sheets, %lu runs, %lu sets of lines held one way, %lu probes, %lu of them of "
            "lines that nothing reads\n",
            demands.boards, demands.sheets, demands.inputs, demands.hold_sets, demands.probes, demands.unread);
@@ -1047,7 +1270,7 @@ static int summary(void)
            demands.too_wide);
     all = demands.too_wide != 0 && demands.too_wide != demands.drawings && all;
     if (!all)
-        printf("not every number that a service can give was hit, or a kind of table, sheet, lamp or drawing was missed\n");
+        printf("not every number that a service can give was hit, or a kind of table, sheet, lamp, drawing or note was missed\n");
     printf("%lu differences\n", differences + demands.failures);
     return all && differences + demands.failures == 0 ? 0 : 1;
 }
@@ -1104,6 +1327,8 @@ int main(int argc, char **argv)
         compare_lamps(outputs);
     for (unsigned contacts = 1; contacts <= 12; contacts++)
         compare_drawings(contacts);
+    for (unsigned contacts = 1; contacts <= 12; contacts++)
+        compare_notes(contacts);
     count += cases; /* random ones, besides these */
     for (uint64_t i = 0; cases < count; i++) {
         random_case();

@@ -38,6 +38,12 @@ static unsigned any_byte(struct dice *dice)
     return chance(dice, 60) ? roll(dice, 9) : roll(dice, 256);
 }
 
+/* A tag that is no note's. */
+static unsigned any_tag(struct dice *dice)
+{
+    return any_byte(dice) % NOTE_TAG;
+}
+
 /* A byte where only 0 and 1 are good. */
 static unsigned above_one(struct dice *dice)
 {
@@ -64,12 +70,20 @@ static size_t field_length(const struct file *file, size_t at)
     return two_bytes(file->bytes + at + 1);
 }
 
-/* The place of field k of a file of whole fields; its length if there are not so many. */
+/* The place of the first field from a place on that is no note. */
+static size_t pass_notes(const struct file *file, size_t at)
+{
+    while (at < file->length && file->bytes[at] >= NOTE_TAG)
+        at += 3 + field_length(file, at);
+    return at;
+}
+
+/* The place of field k of a file of whole fields, notes not counted; its length if there are not so many. */
 static size_t field_place(const struct file *file, unsigned k)
 {
-    size_t at = 0;
+    size_t at = pass_notes(file, 0);
     while (k-- > 0 && at < file->length)
-        at += 3 + field_length(file, at);
+        at = pass_notes(file, at + 3 + field_length(file, at));
     return at;
 }
 
@@ -95,13 +109,14 @@ static void resize_field(struct dice *dice, struct file *file, size_t at, size_t
 static void set_tag(struct dice *dice, struct file *file, size_t at)
 {
     if (at < file->length)
-        file->bytes[at] = (uint8_t)any_byte(dice);
+        file->bytes[at] = (uint8_t)any_tag(dice);
 }
 
 static void add_field(struct dice *dice, struct file *file, size_t at)
 {
     unsigned length = roll(dice, 5);
     insert(dice, file, at, 3 + (size_t)length);
+    file->bytes[at] = (uint8_t)any_tag(dice);
     set_two_bytes(file->bytes + at + 1, length);
 }
 
@@ -441,14 +456,14 @@ void random_fields(struct dice *dice, struct file *file)
 
 /* ---- Netlists. ---- */
 
-unsigned contacts_of(const struct file *netlist)
+unsigned contacts_of(const struct file *file)
 {
-    return netlist->bytes[3];
+    return file->bytes[field_place(file, 0) + 3];
 }
 
 unsigned gates_of(const struct file *netlist)
 {
-    return (unsigned)field_length(netlist, 4) / 5;
+    return (unsigned)field_length(netlist, field_place(netlist, 1)) / 5;
 }
 
 unsigned lines_of(const struct file *netlist)
@@ -743,5 +758,131 @@ void not_one_hold(struct dice *dice, unsigned lines, struct file *holds)
         unsigned line = 2 + roll(dice, lines - 3);
         add_hold(holds, line, roll(dice, 2));
         add_hold(holds, line + 1 + roll(dice, lines - line - 1), roll(dice, 2));
+    }
+}
+
+/* ---- Notes. ---- */
+
+/* Bytes of a file from its start on, which look like fields, or any bytes. */
+static void add_value(struct dice *dice, unsigned length, const struct file *like, struct file *file)
+{
+    for (unsigned i = 0; i < length; i++)
+        add_byte(file, like != NULL && like->length > 0 ? like->bytes[i % like->length] : any_byte(dice));
+}
+
+static void add_note(struct dice *dice, unsigned tag, unsigned length, const struct file *like, struct file *file)
+{
+    add_head(file, tag, length);
+    add_value(dice, length, like, file);
+}
+
+static unsigned note_tag(struct dice *dice)
+{
+    return NOTE_TAG + roll(dice, 256 - NOTE_TAG);
+}
+
+/* Adds notes of one kind; `like` is the file that they are put into. */
+static void add_notes(struct dice *dice, enum note_kind kind, const struct file *like, struct file *file)
+{
+    unsigned count = kind == NOTES_IN_A_ROW ? 2 + roll(dice, 8) : kind == THOUSANDS_OF_NOTES ? 2000 + roll(dice, 3000) : 1;
+    for (; count > 0; count--) {
+        unsigned length = roll(dice, kind == NOTE_LIKE_FIELDS ? 300 : 20);
+        if (kind == EMPTY_NOTE || kind == THOUSANDS_OF_NOTES)
+            length = 0;
+        else if (kind == LONGEST_NOTE)
+            length = 65535;
+        unsigned tag = kind == LOWEST_TAG ? NOTE_TAG : kind == HIGHEST_TAG ? 255 : note_tag(dice);
+        add_note(dice, tag, length, kind == NOTE_LIKE_FIELDS ? like : NULL, file);
+    }
+}
+
+/* Whether a field stands whole at a place. */
+static bool is_whole(const struct file *file, size_t at)
+{
+    return file->length - at >= 3 && field_length(file, at) <= file->length - at - 3;
+}
+
+static unsigned whole_fields(const struct file *file)
+{
+    unsigned count = 0;
+    for (size_t at = 0; is_whole(file, at); at += 3 + field_length(file, at))
+        count++;
+    return count;
+}
+
+void put_notes(struct dice *dice, enum note_kind kind, unsigned place, const struct file *file, struct file *noted)
+{
+    unsigned fields = whole_fields(file);
+    size_t at = 0;
+    noted->length = 0;
+    for (unsigned k = 0; k <= fields; k++) {
+        bool here = k == place || (place == EVERYWHERE && chance(dice, 50)) || (k == fields && noted->length == at);
+        size_t length = k < fields ? 3 + field_length(file, at) : file->length - at;
+        if (here && noted->length + file->length < MOST_NOTED)
+            add_notes(dice, kind, file, noted);
+        memcpy(noted->bytes + noted->length, file->bytes + at, length);
+        noted->length += length;
+        at += length;
+    }
+}
+
+void put_field(struct dice *dice, unsigned tag, unsigned place, struct file *file)
+{
+    size_t at = field_place(file, place);
+    add_field(dice, file, at);
+    file->bytes[at] = (uint8_t)tag;
+}
+
+void cut_note(struct dice *dice, enum cut_kind kind, struct file *file)
+{
+    size_t at = field_place(file, roll(dice, 4)), rest = file->length - at;
+    unsigned length = kind == LONGEST_NOTE_CUT ? 65535 : 2 + roll(dice, 300);
+    if (kind == NOTE_PAST_THE_END) {
+        insert(dice, file, at, 3);
+        file->bytes[at] = (uint8_t)note_tag(dice);
+        set_two_bytes(file->bytes + at + 1, (unsigned)rest + 1 + (chance(dice, 50) ? 0 : roll(dice, 65535 - (uint32_t)rest)));
+        return;
+    }
+    add_note(dice, note_tag(dice), length, NULL, file);
+    if (kind == NOTE_OF_ONE_BYTE)
+        file->length -= length + 2;
+    else if (kind == NOTE_OF_TWO_BYTES)
+        file->length -= length + 1;
+    else if (kind == NOTE_WITHOUT_VALUE)
+        file->length -= length;
+    else
+        file->length -= 1 + (kind == NOTE_CUT_WITHIN ? roll(dice, length - 1) : 0);
+}
+
+void damage_note(struct dice *dice, struct file *file)
+{
+    size_t at = 0, notes[64];
+    unsigned count = 0;
+    for (; is_whole(file, at) && count < 64; at += 3 + field_length(file, at))
+        if (file->bytes[at] >= NOTE_TAG)
+            notes[count++] = at;
+    if (count == 0)
+        return;
+    at = notes[roll(dice, count)];
+    size_t length = 3 + field_length(file, at), within = roll(dice, (uint32_t)length);
+    switch (roll(dice, 6)) {
+    case 0:
+        file->bytes[at] = (uint8_t)any_byte(dice);
+        break;
+    case 1:
+        set_two_bytes(file->bytes + at + 1, (unsigned)length - 3 + (chance(dice, 50) ? 1 : 65535));
+        break;
+    case 2:
+        file->bytes[at + within] = (uint8_t)any_byte(dice);
+        break;
+    case 3:
+        file->length = at + within;
+        break;
+    case 4:
+        erase(file, at + within, 1);
+        break;
+    default:
+        insert(dice, file, at + within, 1 + roll(dice, 3));
+        break;
     }
 }

@@ -4,7 +4,7 @@
 
 #include "drawings.h"
 
-enum { FILE_ROOM = 80000, MOST_GATES = 10602 };
+enum { FILE_ROOM = 400000, MOST_GATES = 10602, NOTE_TAG = 128 };
 
 struct file {
     size_t length;
@@ -47,8 +47,9 @@ enum lamp_damage {
 /* Damages the lamp of a good netlist that has one in this way. */
 void damage_lamp(struct dice *dice, enum lamp_damage kind, struct file *file);
 
-/* The counts of a netlist that gets a yes to question 11; of others some numbers. The lamp's pair is one of the pairs. */
-unsigned contacts_of(const struct file *netlist);
+/* The counts of a netlist that gets a yes to question 11; of others some numbers. The lamp's pair is one of the pairs. The count of
+ * contacts is that of a table or drawing, too. */
+unsigned contacts_of(const struct file *file);
 unsigned lines_of(const struct file *netlist);
 unsigned gates_of(const struct file *netlist);
 unsigned outputs_of(const struct file *netlist);
@@ -67,5 +68,32 @@ void damage_holds(struct dice *dice, unsigned lines, struct file *holds);
 void not_one_hold(struct dice *dice, unsigned lines, struct file *holds);
 
 void add_hold(struct file *holds, unsigned line, unsigned value);
+
+/* Notes to be put into a file: one of any tag and length, one of length 0, and so on. The value of the last kind is the file's own bytes
+ * from its start on. */
+enum note_kind {
+    ANY_NOTE, EMPTY_NOTE, LONGEST_NOTE, LOWEST_TAG, HIGHEST_TAG, NOTES_IN_A_ROW, THOUSANDS_OF_NOTES, NOTE_LIKE_FIELDS, NOTE_KINDS
+};
+
+enum { EVERYWHERE = 100, MOST_NOTED = 180000 };
+
+/* The file with notes before field `place`, after the last one if there are not so many, or at some places, at one at least. None is
+ * put where the file would have MOST_NOTED bytes before it. What is cut short at the file's end stays there. */
+void put_notes(struct dice *dice, enum note_kind kind, unsigned place, const struct file *file, struct file *noted);
+
+/* Puts a field of this tag before field `place` of a file of whole fields. */
+void put_field(struct dice *dice, unsigned tag, unsigned place, struct file *file);
+
+/* The ways in which a note can be cut short: as the last field, or before other fields with a length that runs past the end. */
+enum cut_kind {
+    NOTE_OF_ONE_BYTE, NOTE_OF_TWO_BYTES, NOTE_WITHOUT_VALUE, NOTE_CUT_WITHIN, NOTE_A_BYTE_SHORT, LONGEST_NOTE_CUT, NOTE_PAST_THE_END,
+    CUT_KINDS
+};
+
+/* Puts a note that is cut short into a file of whole fields. */
+void cut_note(struct dice *dice, enum cut_kind kind, struct file *file);
+
+/* Damages a byte of some note, drops it, puts others before it, or ends the file there. */
+void damage_note(struct dice *dice, struct file *file);
 
 #endif

@@ -65,17 +65,21 @@ sed -n '/^    \$ pilgodur list/,/^$/p' "$root/README.md" | sed '1d; $d; s/^    /
 "$bench" list selector.table >said
 same "README's example of list" said listing
 
-# What is shown under README's two commands about the lamp is what the second says after the first.
-sed -n '/^    \$ pilgodur build --lamp/,/^$/p' "$root/README.md" | sed 's/^    //' >shown
-sed '1,2d; $d' shown >page
+# two_commands WHAT BEGINNING: what is shown under README's two commands, of which the first begins like this, is what the second says
+# after the first.
+two_commands() {
+    sed -n "/^    \\$ pilgodur $2/,/^\$/p" "$root/README.md" | sed 's/^    //' >shown
+    sed '1,2d; $d' shown >page
+    sed -n 's/^\$ pilgodur //p' shown >commands
+    while read -r command; do
+        eval "\"\$bench\" $command" >said
+    done <commands
+    [ "$(wc -l <commands)" -eq 2 ] || complain "README's example of $1 has other commands"
+    same "README's example of $1" said page
+}
 cp "$root/examples/spare.table" .
-sed -n 's/^\$ pilgodur //p' shown >commands
-while read -r command; do
-    # shellcheck disable=SC2086
-    "$bench" $command >said
-done <commands
-[ "$(wc -l <commands)" -eq 2 ] || complain "README's example of the lamp has other commands"
-same "README's example of the lamp" said page
+two_commands 'the lamp' 'build --lamp'
+two_commands 'notes' 'build selector.table --note'
 
 sed -n '/^    \$ cat both.drawing/,/^    \$ pilgodur draw/p' "$root/README.md" | sed '1d; $d; s/^    //' >both.drawing
 sed -n '/^    \$ pilgodur draw both.drawing/,/^$/p' "$root/README.md" | sed '1d; $d; s/^    //' >drawn
@@ -86,7 +90,7 @@ same "README's example of draw" said drawn
 while read -r command; do
     grep -q "^| \`$command " "$root/README.md" || complain "README has no row for $command"
 done <commands
-[ "$(wc -l <commands)" -ge 10 ] || failures=$((failures + 1))
+[ "$(wc -l <commands)" -ge 11 ] || failures=$((failures + 1))
 
 # The worked boards of docs/RULES.md. A table stands in the first block of a section, with words behind its bytes.
 section() {
@@ -123,6 +127,29 @@ same_gates 'The selector'
 section 'The selector' | sed '1,/^Its sheet/d' | sed -n 's/^    //p' >page
 "$bench" list "hex:$(cat table)" >said
 same "the selector's sheet in docs/RULES.md" said page
+
+# The selector's table with a note is answered like the table without it; what the page says of other bytes in the note.
+section 'Notes' | bytes >noted
+od -An -v -tx1 selector.table | tr -d ' \n' >page
+sed 's/80000444522d37//' noted >said
+same "the table with a note in docs/RULES.md, without it" said page
+[ "$(wc -c <noted)" -eq 72 ] || complain "the table with a note in docs/RULES.md has another count of bytes"
+for command in check build list; do
+    "$bench" $command "hex:$(cat noted)" >said
+    "$bench" $command selector.table >page
+    same "$command of the table with a note in docs/RULES.md" said page
+done
+"$bench" notes "hex:$(cat noted)" >said
+echo 'note 0: byte 13, tag 128, length 4, "DR-7"' >page
+same "the note in docs/RULES.md" said page
+: >program
+for edit in 's/800004/800014/' 's/800004/800015/' 's/800004/7f0004/'; do
+    refused check "hex:$(sed $edit noted)"
+done
+section 'Notes' | sed '1,/^It is answered/d' | tr '\n' ' ' | grep -o '\(: it is refused with\|:\) [0-9]*[.;]' | grep -o '[0-9]*' >page
+sed 's/^| \([0-9]*\).*/\1/' program >said
+same "what docs/RULES.md says of other notes" said page
+
 table_of 'A second board' 'matrices'
 same_gates 'A second board'
 [ "$(wc -l <page)" -eq 42 ] || failures=$((failures + 1))

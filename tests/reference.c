@@ -59,7 +59,12 @@ static unsigned two_bytes(const uint8_t *at)
     return 256u * at[0] + at[1];
 }
 
-/* The fields that stand whole at the start of a file; *whole tells whether nothing is left over. */
+static bool is_note(const struct field *field)
+{
+    return field->tag >= 128;
+}
+
+/* The fields that stand whole at the start of a file, but for notes; *whole tells whether nothing is left over. */
 static struct field *fields_of(struct pool *pool, const uint8_t *file, size_t length, bool *whole)
 {
     struct field *first = NULL;
@@ -70,8 +75,10 @@ static struct field *fields_of(struct pool *pool, const uint8_t *file, size_t le
         field->tag = file[at];
         field->length = two_bytes(file + at + 1);
         field->value = file + at + 3;
-        *end = field;
-        end = &field->next;
+        if (!is_note(field)) {
+            *end = field;
+            end = &field->next;
+        }
         at += 3 + field->length;
     }
     *whole = at == length;

@@ -187,6 +187,68 @@ for netlist in kind source output lamp-true lamp-false; do
     expect 1 twelve '' "sheet <$netlist"
 done
 
+# notes BYTES: notes of so many bytes together, 3 at least, each as long as it can be. Of a rest of 1 or 2 bytes the note before it
+# is shorter.
+notes() {
+    left=$1
+    while [ "$left" -gt 0 ]; do
+        length=$((left - 3))
+        [ $length -le 65535 ] || length=65535
+        [ $((left - 3 - length)) -eq 0 ] || [ $((left - 3 - length)) -gt 2 ] || length=$((length - 3))
+        printf "\\377\\$(printf %03o $((length / 256)))\\$(printf %03o $((length % 256)))"
+        head -c $length /dev/zero | tr '\0' x
+        left=$((left - 3 - length))
+    done
+}
+# Notes: first, between the fields, last, of no bytes; one cut short, in each way; a field of tag 127 is no note.
+note='\200\000\006\005\000\004hex'
+expect 0 lamp.sheet '' "printf '$note\\001\\000\\001\\001$note$note\\004\\000\\000\\377\\000\\000\\005\\000\\004\\000\\002\\000\\003$note\\006\\000\\004\\000\\002\\000\\003$note' | sheet"
+expect 0 "$expected" '' '{ notes 3; cat selector.netlist; notes 3; } | sheet'
+for cut in '\200' '\200\000' '\200\000\001' '\200\000\004abc' '\200\377\377abc' '\200\000\000\200'; do
+    expect 1 eleven '' "{ cat selector.netlist; printf '$cut'; } | sheet"
+    expect 1 eleven '' "{ cat lamp; printf '$cut'; } | sheet"
+done
+expect 1 eleven '' "{ printf '\\200\\000\\100'; cat selector.netlist; } | sheet"
+expect 1 eleven '' "{ printf '\\177\\000\\000'; cat selector.netlist; } | sheet"
+expect 1 eleven '' "{ cat selector.netlist; printf '\\177\\000\\000'; } | sheet"
+expect 1 eleven '' 'notes 1000 | sheet'
+expect 1 twelve '' '{ notes 500; cat kind; notes 3; } | sheet'
+# filled NETLIST BYTES: the netlist with notes behind it, so many bytes; filled_first: with notes before it.
+filled() {
+    cat "$1"
+    notes $(($2 - $(wc -c <"$1")))
+}
+filled_first() {
+    notes $(($2 - $(wc -c <"$1")))
+    cat "$1"
+}
+# The most bytes that are read, 65,536, one more, and far more: these are refused first, whatever they are.
+for bytes in 65535 65536; do
+    for fill in filled filled_first; do
+        same "the bytes of $fill $bytes" "$($fill selector.netlist $bytes | wc -c)" $bytes
+        expect 0 "$expected" '' "$fill selector.netlist $bytes | sheet"
+        expect 0 10602+8+1.sheet '' "$fill $largest $bytes | sheet"
+        expect 1 twelve '' "$fill kind $bytes | sheet"
+        expect 1 eleven '' "$fill 13-contacts $bytes | sheet"
+    done
+done
+expect 0 "$expected" '' 'filled selector.netlist 65536 >filled; failing_sheet few_bytes <filled'
+expect 0 "$expected" '' 'failing_sheet interrupted <filled'
+for bytes in 65537 65538 100000 1000000 16777217; do
+    for fill in filled filled_first; do
+        expect 1 eleven '' "$fill selector.netlist $bytes 2>/dev/null | sheet"
+        expect 1 eleven '' "$fill $largest $bytes 2>/dev/null | sheet"
+        expect 1 eleven '' "$fill kind $bytes 2>/dev/null | sheet"
+    done
+done
+expect 1 eleven '' '{ cat filled; printf x; } | sheet'
+expect 1 eleven '' 'filled selector.netlist 65537 >filled; failing_sheet few_bytes <filled'
+expect 1 eleven '' 'failing_sheet interrupted <filled'
+# 4,096 empty notes before a netlist, and as many as there is room for.
+expect 0 "$expected" '' '{ head -c 4096 /dev/zero | sed "s/\x00/\xff\x00\x00/g"; cat selector.netlist; } | sheet'
+expect 0 "$expected" '' '{ head -c 21825 /dev/zero | sed "s/\x00/\xff\x00\x00/g"; cat selector.netlist; } | sheet'
+expect 1 eleven '' '{ head -c 21826 /dev/zero | sed "s/\x00/\xff\x00\x00/g"; cat selector.netlist; } | sheet'
+
 # Input in small pieces.
 expect 0 "$expected" '' 'dd if=selector.netlist bs=1 2>/dev/null | sheet'
 expect 0 "$expected" '' '{ head -c 5 selector.netlist; sleep 0.1; tail -c +6 selector.netlist; } | sheet'

@@ -1,7 +1,7 @@
-/* Writes a random drawing to standard output: its bytes, or its text form with names, blanks, comments and line ends of every kind. With
- * a KIND it is malformed in that way (tests/damage.h).
+/* Writes a random drawing to standard output: its bytes, these with notes put in, or its text form with names, blanks, comments and line
+ * ends of every kind. With a KIND it is malformed in that way (tests/damage.h).
  *
- *     sketches SEED bytes|text [KIND]          exit status 1: the text form has no such drawing; 2: bad usage */
+ *     sketches SEED bytes|noted|text [KIND]    exit status 1: the text form has no such drawing; 2: bad usage */
 #include <stdio.h>
 #include <stdlib.h>
 #include <string.h>
@@ -108,7 +108,12 @@ int main(int argc, char **argv)
         do
             malformed_drawing(&dice, (enum malformation)strtoul(argv[3], NULL, 10), &drawing, &file);
         while (file.length > 0 && file.bytes[0] >= '\t'); /* the bench may take it for text */
-    if (strcmp(argv[2], "bytes") == 0)
+    if (strcmp(argv[2], "noted") == 0) {
+        static struct file plain;
+        plain = file;
+        put_notes(&dice, ANY_NOTE, EVERYWHERE, &plain, &file);
+    }
+    if (strcmp(argv[2], "text") != 0)
         return fwrite(file.bytes, 1, file.length, stdout) == file.length && fflush(stdout) == 0 ? 0 : 2;
     size_t nodes = file.length < 7 ? file.length : 7 + 256u * file.bytes[5] + file.bytes[6];
     if (!has_text(&file, nodes))

@@ -7,7 +7,7 @@ use mathlib.Core.List.{List, [], _∷_}
 use borrow.Author.Tests.{le-leb}
 use Rattle.fields.specs.declared.Framing.the-variants.{Whole}
 use Rattle.fields.specs.Fields.{Item, Fields, fieldsOf}
-use Rattle.fields.proofs.Encoding.{of-encoded}
+use Rattle.fields.proofs.Notes.{of-encoded}
 use Rattle.fields.proofs.Listed.{length-listed}
 use Rattle.files.specs.declared.header.Contacts.the-variants.{Counted}
 use Rattle.files.specs.Header.{contactsIn, hasParts}
@@ -27,7 +27,7 @@ itemsOf d = field 1 (d .contacts ∷ []) ∷ field 2 (redrawn d .outputs) ∷ fi
 
 file-fields : (d : Diagram) → fieldsOf (drawingFor d) ≡ record { items = itemsOf d; framing = Whole }
 unfolding drawingFor
-file-fields d = of-encoded (itemsOf d)
+file-fields d = of-encoded (itemsOf d) (omega arith, (omega arith, (omega arith, tt)))
 
 pub drawing-back : (d : Diagram) → drawingIn (drawingFor d) ≡ redrawn d
 drawing-back d = ap (λ (fs : Fields). drawingOf (fs .items)) (file-fields d)

@@ -6,7 +6,7 @@ use mathlib.Core.List.{List, [], _∷_, flatMap}
 use lib.Dec.{ltb}
 use lib.ListN.{length}
 use Rattle.fields.specs.Bounded.{listed}
-use Rattle.fields.specs.Fields.{encoded, fieldsOf}
+use Rattle.fields.specs.Fields.{encoded, fieldsOf, withoutNotes}
 use Rattle.diagram.specs.declared.Diagram.{Diagram}
 use Rattle.diagram.specs.Diagram.{width, edge, root, Input, wordOf, wordAt}
 use Rattle.table.specs.Promises.{Accepted}
@@ -68,8 +68,8 @@ drawingFor d =
     ∷ record { tag = 7; value = flatMap (levelBytes d) (listed (λ l. l) (d .contacts) 0) }
     ∷ [])
 
--- It gives an accepted table back.
+-- It gives an accepted table back, without its notes.
 abbrev pub TableGivenBack : Type 0
 TableGivenBack =
     (file : List ℕ) → Accepted file → let drawing = drawingFor (diagramIn file) in
-    (drawingRefusal drawing ≡ 0) × (tableFor (drawingIn drawing) ≡ file)
+    (drawingRefusal drawing ≡ 0) × (tableFor (drawingIn drawing) ≡ withoutNotes file)

@@ -1,4 +1,4 @@
--- A file whose fields are whole is the encoding of its fields, and an encoding has just the fields that went into it.
+-- A file whose fields are whole is the encoding of all its fields, and an encoding has just the fields that went into it.
 use Prim.Native.Nat.{ℕ, zero, suc, _+_, _-_, _/_, _%_, _≤_, _<_}
 use native.Mathlib.Nat.{div-add-mod'}
 use native.Mathlib.Numerals.{add-one, add-two, add-three}
@@ -10,8 +10,9 @@ use lib.Seq.{drop-cons, drop-drop, length-take-le, getD-append-seam, getD-append
 use Rattle.fields.specs.declared.Framing.the-variants.{Whole}
 use Rattle.fields.specs.declared.Step.{Step}
 use Rattle.fields.specs.declared.Step.the-variants.{Next, End, Cut}
-use Rattle.fields.specs.Fields.{Bytes, Item, Fields, fieldAt, past, stepAt, valueOf, itemOf, before, fieldsFrom, fieldsOf, fieldBytes, encoded}
-use Rattle.fields.proofs.Steps.{stands, ends, walk, step-next, step-end}
+use Rattle.fields.specs.Fields.{Bytes, Item, Fields, fieldAt, past, rawStepAt, valueOf, itemOf, before, rawFieldsFrom, butNotes, fieldsFrom, fieldsOf, fieldBytes, encoded}
+use Rattle.fields.proofs.Raw.{raw-stands, ends, raw-walk, raw-next, raw-end}
+use Rattle.fields.specs.Promises.{FileIsRow, RowIsRead}
 
 -- A field's bytes after a prefix are read as that field, and what follows is read next.
 module _ (p : List ℕ) (i : Item) (rest : List ℕ) where
@@ -27,23 +28,23 @@ module _ (p : List ℕ) (i : Item) (rest : List ℕ) where
       ap (itemOf file) field ∙
       simp drop-append-add (ap (λ (v : List ℕ). record { tag = i .tag; value = v }) (take-append-seam (i .value) rest))
 
-  next : fieldsFrom file (length p) ≡ before i (fieldsFrom file (length p + 3 + length (i .value)))
+  next : rawFieldsFrom file (length p) ≡ before i (rawFieldsFrom file (length p + 3 + length (i .value)))
   next =
       let l : length file ≡ length p + (3 + (length (i .value) + length rest)) = simp length-append (omega arith) in
       let e : past (fieldAt file (length p)) ≡ length p + 3 + length (i .value) = ap past field in
-      walk file (length p) (sym (step-next file (length p) (omega arith) (omega arith))) ∙ cc item
+      raw-walk file (length p) (sym (raw-next file (length p) (omega arith) (omega arith))) ∙ cc item
 
 -- An encoding after a prefix is read as its items.
-after : (p : List ℕ) (is : List Item) → fieldsFrom (p ++ encoded is) (length p) ≡ record { items = is; framing = Whole }
+after : (p : List ℕ) (is : List Item) → rawFieldsFrom (p ++ encoded is) (length p) ≡ record { items = is; framing = Whole }
 unfolding encoded
-after p [] = walk (p ++ []) (length p) (sym (step-end (p ++ []) (length p) (simp length-append (omega arith))))
+after p [] = raw-walk (p ++ []) (length p) (sym (raw-end (p ++ []) (length p) (simp length-append (omega arith))))
 after p (i ∷ is) =
     let l : length (p ++ fieldBytes i) ≡ length p + 3 + length (i .value) = simp length-append (omega arith) in
     next p i (encoded is) ∙ ap (before i) (cc (after (p ++ fieldBytes i) is, append-assoc p (fieldBytes i) (encoded is)))
 
-pub of-encoded : (is : List Item) → fieldsOf (encoded is) ≡ record { items = is; framing = Whole }
-unfolding fieldsOf
-of-encoded is = after [] is
+pub row-is-read : RowIsRead
+unfolding fieldsOf fieldsFrom
+row-is-read is = ap (λ (fs : Fields). record { items = butNotes (fs .items); framing = fs .framing }) (after [] is)
 
 module _ (file : List ℕ) (b : Bytes file) where
   -- From a field that fits on, a file is that field's bytes and then what is past it.
@@ -63,23 +64,23 @@ module _ (file : List ℕ) (b : Bytes file) where
       cc (add-one at, add-two at, add-three at, take-append-drop (f .len) d, drop-drop (f .len) (f .start) file)
 
   -- From a place on, whole fields are what is left of the file.
-  from : (fuel at : ℕ) → length file - at < fuel → fieldsFrom file at .framing ≡ Whole →
-      encoded (fieldsFrom file at .items) ≡ drop at file
+  from : (fuel at : ℕ) → length file - at < fuel → rawFieldsFrom file at .framing ≡ Whole →
+      encoded (rawFieldsFrom file at .items) ≡ drop at file
   unfolding encoded
   from zero at h w = absurd (omega arith)
-  from (suc fuel) at h w = go (from fuel) (stepAt file at) refl
+  from (suc fuel) at h w = go (from fuel) (rawStepAt file at) refl
     where
-      go : ((k : ℕ) → length file - k < fuel → fieldsFrom file k .framing ≡ Whole →
-          encoded (fieldsFrom file k .items) ≡ drop k file) →
-          (s : Step) → stepAt file at ≡ s → encoded (fieldsFrom file at .items) ≡ drop at file
+      go : ((k : ℕ) → length file - k < fuel → rawFieldsFrom file k .framing ≡ Whole →
+          encoded (rawFieldsFrom file k .items) ≡ drop k file) →
+          (s : Step) → rawStepAt file at ≡ s → encoded (rawFieldsFrom file at .items) ≡ drop at file
       go rest (Next f c) e =
-          let s = stands file at f c e in
-          let here = walk file at e in
+          let s = raw-stands file at f c e in
+          let here = raw-walk file at e in
           let r = rest (c .at) (omega arith) (cc) in
-          ap (λ (fs : Fields). encoded (fs .items)) here ∙ cc (split at (rw (s .is) at (s .within)))
-      go rest End e = ap (λ (fs : Fields). encoded (fs .items)) (walk file at e) ∙ sym (drop-of-length-le file (ends file at e))
-      go rest Cut e = absurd (let z : _≡_ {A = ℕ} 0 1 = cc (walk file at e) in omega arith)
+          ap (λ (fs : Fields). encoded (fs .items)) here ∙ cc (split at (rw (s .0) at (s .1 .within)))
+      go rest End e = ap (λ (fs : Fields). encoded (fs .items)) (raw-walk file at e) ∙ sym (drop-of-length-le file (ends file at e))
+      go rest Cut e = absurd (let z : _≡_ {A = ℕ} 0 1 = cc (raw-walk file at e) in omega arith)
 
-pub encoded-of : (file : List ℕ) → Bytes file → fieldsOf file .framing ≡ Whole → encoded (fieldsOf file .items) ≡ file
-unfolding fieldsOf
-encoded-of file b w = from file b (suc (length file)) 0 (omega arith) w
+pub file-is-row : FileIsRow
+unfolding fieldsOf fieldsFrom
+file-is-row file b w = from file b (suc (length file)) 0 (omega arith) w

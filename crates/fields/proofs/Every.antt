@@ -14,6 +14,11 @@ module _ {A : Type 0} (P : A → Type 0) where
   every-by [] d h = tt
   every-by (x ∷ xs) d h = (h 0 (omega arith), every-by xs d (λ i l. h (suc i) (omega arith)))
 
+  pub every-at : (xs : List A) (d : A) → P d → Every P xs → (i : ℕ) → P (getD xs i d)
+  every-at [] d p h i = p
+  every-at (x ∷ xs) d p h zero = h .0
+  every-at (x ∷ xs) d p h (suc i) = every-at xs d p (h .1) i
+
   pub every-listed : (f : ℕ → A) (count from : ℕ) → ((i : ℕ) → i < from + count → P (f i)) → Every P (listed f count from)
   unfolding listed
   every-listed f zero from h = tt

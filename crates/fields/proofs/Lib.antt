@@ -1,3 +1,4 @@
+pub mod Raw
 pub mod Steps
 pub mod Walks
 pub mod Encoding
@@ -9,3 +10,4 @@ pub mod Places
 pub mod Small
 pub mod Parts
 pub mod Every
+pub mod Notes

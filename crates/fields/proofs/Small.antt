@@ -5,8 +5,10 @@ use mathlib.Core.Path.{_≡_}
 use mathlib.Core.List.{List, [], _∷_, _++_, flatMap}
 use lib.ListN.{length, getD}
 use Rattle.fields.specs.declared.Framing.the-variants.{Whole}
-use Rattle.fields.specs.Fields.{Bytes, Item, fieldsOf, valueIn, fieldBytes, encoded}
-use Rattle.fields.proofs.Encoding.{encoded-of}
+use Rattle.fields.specs.Fields.{Bytes, Item, rawFieldsFrom, fieldsOf, valueIn, fieldBytes, encoded}
+use Rattle.fields.proofs.Encoding.{file-is-row}
+use Rattle.fields.proofs.Every.{Every, every-at}
+use Rattle.fields.proofs.Notes.{Plain, fields-have}
 
 -- Every element is below 256.
 pub data Small : List ℕ → Type 0 where
@@ -58,11 +60,17 @@ right : (l m : List ℕ) → Bytes (l ++ m) → Bytes m
 right [] m b = b
 right (x ∷ l) m b = right l m (λ k. b (suc k))
 
-values : (is : List Item) → Bytes (encoded is) → (k : ℕ) → Bytes (valueIn is k)
+-- Each value in a row of fields.
+abbrev HasBytes : Item → Type 0
+HasBytes i = Bytes (i .value)
+
+values : (is : List Item) → Bytes (encoded is) → Every HasBytes is
 unfolding encoded
-values [] b k = λ i. omega arith
-values (i ∷ is) b zero = left (i .value) (encoded is) (λ k. b (suc (suc (suc k))))
-values (i ∷ is) b (suc k) = values is (right (fieldBytes i) (encoded is) b) k
+values [] b = tt
+values (i ∷ is) b =
+    (left (i .value) (encoded is) (λ k. b (suc (suc (suc k)))), values is (right (fieldBytes i) (encoded is) b))
 
 pub value-bytes : (file : List ℕ) → Bytes file → fieldsOf file .framing ≡ Whole → (k : ℕ) → Bytes (valueIn (fieldsOf file .items) k)
-value-bytes file b w = values (fieldsOf file .items) (rw (encoded-of file b w) b)
+value-bytes file b w k =
+    every-at (λ (i : Item). Plain i × HasBytes i) (fieldsOf file .items) (record { tag = 0; value = [] }) (omega arith, λ j. omega arith)
+    (fields-have HasBytes file (values (rawFieldsFrom file 0 .items) (rw (file-is-row file b w) b))) k .1

@@ -6,8 +6,8 @@ use mathlib.Core.List.{List}
 use lib.ListN.{length}
 use Rattle.fields.specs.declared.Step.{Step}
 use Rattle.fields.specs.declared.Step.the-variants.{Next, End, Cut}
-use Rattle.fields.specs.Fields.{stepAt, fieldsFrom, fieldsOf}
-use Rattle.fields.specs.Inner.Walk.{Walk, ended, broken, stepped, WalkYieldsFields}
+use Rattle.fields.specs.Fields.{fieldsFrom, fieldsOf}
+use Rattle.fields.specs.Inner.Walk.{stepAt, Walk, ended, broken, stepped, WalkYieldsFields}
 use Rattle.fields.proofs.Steps.{stands, walk}
 
 from : (fuel : ℕ) (file : List ℕ) (at : ℕ) → length file - at < fuel → Walk file at (fieldsFrom file at)

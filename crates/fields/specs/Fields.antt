@@ -1,6 +1,6 @@
 -- Files as rows of fields: one tag byte, two length bytes (high byte first), the value.
 use Prim.Native.Nat.{ℕ, zero, suc, _+_, _*_, _/_, _%_, _<_}
-use mathlib.Core.Bool.{cond}
+use mathlib.Core.Bool.{Bool, cond}
 use mathlib.Core.List.{List, [], _∷_, _++_}
 use lib.Dec.{leb}
 use lib.ListN.{length, getD, take, drop}
@@ -28,8 +28,8 @@ abbrev pub past : Field → ℕ
 past f = f .start + f .len
 
 -- What stands at a place: nothing, at the end; a field that fits, and the cursor past it; or a field cut short.
-unfoldable pub stepAt : List ℕ → ℕ → Step
-stepAt file at =
+unfoldable pub rawStepAt : List ℕ → ℕ → Step
+rawStepAt file at =
     let f = fieldAt file at in
     cond (leb (length file) at) End (cond (leb (past f) (length file)) (Next f (record { at = past f })) Cut)
 
@@ -60,14 +60,26 @@ fieldsAfter file from (Next f c) = before (itemOf file f) (from (c .at))
 fieldsAfter file from End = record { items = []; framing = Whole }
 fieldsAfter file from Cut = record { items = []; framing = Broken }
 
--- The fields from a place on, in at most so many steps.
-unfoldable pub fieldsWithin : ℕ → List ℕ → ℕ → Fields
-fieldsWithin zero file at = record { items = []; framing = Broken }
-fieldsWithin (suc steps) file at = fieldsAfter file (fieldsWithin steps file) (stepAt file at)
+-- All fields from a place on, notes among them, in at most so many steps.
+unfoldable pub rawFieldsWithin : ℕ → List ℕ → ℕ → Fields
+rawFieldsWithin zero file at = record { items = []; framing = Broken }
+rawFieldsWithin (suc steps) file at = fieldsAfter file (rawFieldsWithin steps file) (rawStepAt file at)
 
 -- A step goes forward, so a file has fewer steps than bytes and one more.
+unfoldable pub rawFieldsFrom : List ℕ → ℕ → Fields
+rawFieldsFrom file at = rawFieldsWithin (suc (length file)) file at
+
+-- A note: a field with a tag of 128 to 255.
+abbrev pub isNote : ℕ → Bool
+isNote tag = leb 128 tag
+
+unfoldable pub butNotes : List Item → List Item
+butNotes [] = []
+butNotes (i ∷ is) = cond (isNote (i .tag)) (butNotes is) (i ∷ butNotes is)
+
+-- The fields that are read: all but the notes. A note that is cut short breaks the file, too.
 unfoldable pub fieldsFrom : List ℕ → ℕ → Fields
-fieldsFrom file at = fieldsWithin (suc (length file)) file at
+fieldsFrom file at = record { items = butNotes (rawFieldsFrom file at .items); framing = rawFieldsFrom file at .framing }
 
 unfoldable pub fieldsOf : List ℕ → Fields
 fieldsOf file = fieldsFrom file 0
@@ -86,3 +98,7 @@ fieldBytes i = i .tag ∷ length (i .value) / 256 ∷ length (i .value) % 256 �
 unfoldable pub encoded : List Item → List ℕ
 encoded [] = []
 encoded (i ∷ is) = fieldBytes i ++ encoded is
+
+-- A file without its notes.
+abbrev pub withoutNotes : List ℕ → List ℕ
+withoutNotes file = encoded (fieldsOf file .items)

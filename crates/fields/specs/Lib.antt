@@ -1,4 +1,5 @@
 pub mod Fields
 pub mod Bounded
 pub mod Refusals
+pub mod Promises
 pub mod Inner

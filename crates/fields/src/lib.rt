@@ -1,7 +1,7 @@
 // Files as rows of fields: one tag byte, two length bytes (high byte first), the value.
 ghost use mathlib.Core.Path.{_≡_};
-ghost use Rattle.fields.specs.Fields.{stepAt, valueOf, fieldsOf, numberOf};
-ghost use Rattle.fields.specs.Inner.Walk.{itemsFrom};
+ghost use Rattle.fields.specs.Fields.{rawStepAt, valueOf, fieldsOf, numberOf};
+ghost use Rattle.fields.specs.Inner.Walk.{stepAt, itemsFrom};
 ghost use lib.ListN.{getD, drop};
 
 // One field of a file: its tag, and the place and the length of its value.
@@ -40,9 +40,9 @@ impl Cursor {
         Cursor { at: 0 }
     }
 
-    // The field at the cursor with the moved cursor, or why there is none.
-    pub fn next(self, file: &[u8]) -> Step
-        ensures { λ r. ⌜ r ≡ stepAt (now (file .entry)) (self .at) ⌝ }
+    // The field at the cursor, be it a note, with the moved cursor, or why there is none.
+    fn raw_next(self, file: &[u8]) -> Step
+        ensures { λ r. ⌜ r ≡ rawStepAt (now (file .entry)) (self .at) ⌝ }
     {
         let at = self.at;
         if file.len() <= at {
@@ -65,6 +65,23 @@ impl Cursor {
             },
             Cursor { at: start + len },
         )
+    }
+
+    // The next field that is no note, with the cursor moved past it, or why there is none.
+    pub fn next(self, file: &[u8]) -> Step
+        ensures { λ r. ⌜ r ≡ stepAt (now (file .entry)) (self .at) ⌝ }
+    {
+        let mut cursor = self;
+        loop {
+            let step = cursor.raw_next(file);
+            let Step::Next(field, moved) = step else {
+                return step;
+            };
+            if field.tag < 128 {
+                return Step::Next(field, moved);
+            }
+            cursor = moved;
+        }
     }
 
     // The cursor past so many fields more, or where the whole fields end before that.

@@ -8,7 +8,8 @@ use lib.ListN.{length, getD}
 use Rattle.fields.specs.declared.Field.{Field}
 use Rattle.fields.specs.declared.Cursor.{Cursor}
 use Rattle.fields.specs.declared.Step.the-variants.{Next}
-use Rattle.fields.specs.Fields.{stepAt, valueOf, fieldsFrom, fieldsOf}
+use Rattle.fields.specs.Fields.{valueOf, fieldsFrom, fieldsOf}
+use Rattle.fields.specs.Inner.Walk.{stepAt}
 use Rattle.fields.specs.Refusals.{between}
 use Rattle.fields.proofs.Steps.{from-start, items-next}
 use Rattle.files.specs.declared.header.Contacts.the-variants.{Counted, Uncounted}

@@ -10,7 +10,8 @@ use lib.ListN.{length, drop, length-drop}
 use Rattle.fields.specs.declared.Field.{Field}
 use Rattle.fields.specs.declared.Cursor.{Cursor}
 use Rattle.fields.specs.declared.Step.the-variants.{Next}
-use Rattle.fields.specs.Fields.{Item, Fields, stepAt, fieldsFrom, fieldsOf}
+use Rattle.fields.specs.Fields.{Item, Fields, fieldsFrom, fieldsOf}
+use Rattle.fields.specs.Inner.Walk.{stepAt}
 use Rattle.fields.proofs.Steps.{from-start, items-next}
 
 module _ (file : List ℕ) (at from count : ℕ) (start : at ≡ 0)

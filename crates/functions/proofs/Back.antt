@@ -1,10 +1,11 @@
--- An accepted table is the table of its own functions.
+-- An accepted table without its notes is the table of its own functions.
 use Prim.Native.Nat.{ℕ, _+_, _-_, _<_}
 use native.Mathlib.Nat.{zero-add}
 use native.Mathlib.Omega.{arith}
 use mathlib.Core.Path.{_≡_, refl, sym, ap, _∙_}
 use mathlib.Core.Bool.{Bool, true, false}
 use mathlib.Core.List.{List}
+use Rattle.fields.specs.Fields.{withoutNotes}
 use Rattle.diagram.specs.declared.Diagram.{Diagram}
 use Rattle.diagram.specs.Diagram.{width, root, Input, inputOf, join, path, valueAt, wordAt}
 use Rattle.diagram.proofs.Paths.{path-join, value-same, root-in, path-in, value-bit}
@@ -14,6 +15,7 @@ use Rattle.table.specs.Promises.{Accepted}
 use Rattle.table.specs.Table.{diagramIn}
 use Rattle.table.proofs.Accepted.{accepted}
 use Rattle.table.proofs.Promises.{same-bytes}
+use Rattle.table.proofs.Written.{table-without-notes}
 use Rattle.functions.specs.Functions.{functionsOf, canonical, isNarrow, MoreThanEight}
 use Rattle.functions.proofs.Canonical.{canonical-accepted, canonical-contacts, canonical-outputs, canonical-value}
 use Rattle.functions.proofs.Pigeonhole.{pigeonhole}
@@ -84,7 +86,7 @@ module _ (file : List ℕ) (t : Accepted file) where
       go false e = let (l, h, more) = wide n m v own-values e in absurd (no-more l h more)
 
   pub own-table : bytesOf (canonical (diagramIn file .contacts) (diagramIn file .outputs)
-      (functionsOf (diagramIn file .contacts) (valuesOf (diagramIn file)))) ≡ file
+      (functionsOf (diagramIn file .contacts) (valuesOf (diagramIn file)))) ≡ withoutNotes file
   own-table =
       let d = diagramIn file in
       let s = accepted file (t .1) .sized in
@@ -93,7 +95,8 @@ module _ (file : List ℕ) (t : Accepted file) where
       let v = valuesOf d in
       let table = bytesOf (canonical n m (functionsOf n v)) in
       let outputs = canonical-outputs n m v (s .contacts) (s .outputs) own-values own-narrow in
-      same-bytes table file (canonical-accepted n m v (s .contacts) (s .outputs) own-values own-narrow) t
+      sym (table-without-notes (canonical n m (functionsOf n v)))
+      ∙ same-bytes table file (canonical-accepted n m v (s .contacts) (s .outputs) own-values own-narrow) t
       (canonical-contacts n m v (s .contacts) (s .outputs) own-values own-narrow) outputs (λ a h.
       ap (wordAt (diagramIn table) (inputOf a)) outputs
       ∙ word-same _ _ m (canonical-value n m v (s .contacts) (s .outputs) own-values own-narrow (inputOf a)))

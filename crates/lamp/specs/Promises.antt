@@ -8,7 +8,7 @@ use mathlib.Core.Logic.{_⊎_}
 use lib.Dec.{eqb}
 use lib.ListN.{length, getD, take}
 use Rattle.fields.specs.Bounded.{all}
-use Rattle.fields.specs.Fields.{Bytes}
+use Rattle.fields.specs.Fields.{Bytes, withoutNotes}
 use Rattle.diagram.specs.Diagram.{Input, valueAt}
 use Rattle.table.specs.Promises.{Accepted}
 use Rattle.table.specs.Table.{diagramIn}
@@ -60,10 +60,11 @@ LampFilesPass =
     let file = fileOf (lampBoard table) in
     Bytes file × (netlistRefusal file ≡ 0) × (netlistIn file ≡ lampBoard table)
 
--- Two different accepted tables have different netlists with the lamp, too.
+-- Two accepted tables that differ without their notes have different netlists with the lamp, too.
 abbrev pub DifferentLampNetlists : Type 0
 DifferentLampNetlists =
-    (a b : List ℕ) → Accepted a → Accepted b → fileOf (lampBoard a) ≡ fileOf (lampBoard b) → a ≡ b
+    (a b : List ℕ) → Accepted a → Accepted b → fileOf (lampBoard a) ≡ fileOf (lampBoard b) →
+    withoutNotes a ≡ withoutNotes b
 
 -- At every code input each permit pair shows the table's value and its opposite.
 abbrev pub LampRightCode : Type 0

@@ -12,7 +12,8 @@ use Rattle.fields.specs.declared.Framing.the-variants.{Whole}
 use Rattle.fields.specs.Fields.{numberOf, Item, Fields, fieldsOf, valueIn}
 use Rattle.fields.specs.Refusals.{firstNo}
 use Rattle.fields.proofs.Bounded.{all-of}
-use Rattle.fields.proofs.Encoding.{of-encoded}
+use Rattle.fields.proofs.Every.{Every}
+use Rattle.fields.proofs.Notes.{Plain, of-encoded}
 use Rattle.fields.proofs.Parts.{length-parts, part-at}
 use Rattle.files.specs.Header.{contactsIn}
 use Rattle.files.proofs.Heads.{field}
@@ -86,6 +87,10 @@ pairs-back ps =
     ext-getD no-pair (pairsOf v) ps l (λ j h. getD-pairs v j no-pair (omega arith) ∙ pair-back ps j)
 
 -- The lamp's field.
+lamp-plain : (v : List ℕ) → Every Plain (lampField v)
+lamp-plain [] = tt
+lamp-plain (b ∷ v) = (omega arith, tt)
+
 lamp-value : (v : List ℕ) → valueIn (lampField v) 0 ≡ v
 lamp-value [] = refl
 lamp-value (b ∷ v) = refl
@@ -100,7 +105,7 @@ module _ (net : Netlist) where
 
   pub file-fields : fieldsOf (fileOf net) ≡ record { items = itemsOf; framing = Whole }
   unfolding fileOf fileWith
-  file-fields = of-encoded itemsOf
+  file-fields = of-encoded itemsOf (omega arith, (omega arith, (omega arith, lamp-plain (flatMap pairBytes (net .lamp)))))
 
   pub file-length : length (fileOf net) ≡ 10 + 5 * length (net .gates) + 4 * length (net .pairs) + lampLength (4 * length (net .lamp))
   unfolding fileOf

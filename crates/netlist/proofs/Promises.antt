@@ -5,8 +5,7 @@ use mathlib.Core.Path.{_≡_, sym, ap, _∙_}
 use mathlib.Core.List.{List, [], _∷_, flatMap}
 use lib.ListN.{length, getD}
 use lib.Seq.{ext-getD}
-use Rattle.fields.specs.Fields.{Bytes, fieldsOf, valueIn, encoded}
-use Rattle.fields.proofs.Encoding.{encoded-of}
+use Rattle.fields.specs.Fields.{Bytes, Fields, fieldsOf, valueIn, encoded}
 use Rattle.fields.proofs.Small.{value-bytes}
 use Rattle.files.proofs.Heads.{field}
 use Rattle.netlist.specs.declared.Gate.{Gate}
@@ -14,9 +13,9 @@ use Rattle.netlist.specs.declared.Pair.{Pair}
 use Rattle.files.specs.Header.{contactsOf}
 use Rattle.netlist.specs.Netlist.{numberAt, gateAt, pairAt, gatesOf, pairsOf, gateBytes, pairBytes, lampField, fileWith, fileOf}
 use Rattle.netlist.specs.Questions.{netlistOf}
-use Rattle.netlist.specs.Promises.{NetlistReadsBack, NetlistWritesBack}
+use Rattle.netlist.specs.Promises.{NetlistReadsBack, NetlistWithoutNotes, NetlistWritesBack}
 use Rattle.netlist.proofs.Accepted.{accepted}
-use Rattle.netlist.proofs.Files.{length-gate-bytes, length-pair-bytes, gate-byte, pair-byte, no-gate, no-pair, reads-back}
+use Rattle.netlist.proofs.Files.{length-gate-bytes, length-pair-bytes, gate-byte, pair-byte, no-gate, no-pair, file-fields, reads-back}
 use Rattle.netlist.proofs.Lists.{length-gates, getD-gates, length-pairs, getD-pairs}
 
 pub netlist-reads-back : NetlistReadsBack
@@ -64,6 +63,10 @@ module _ (v : List ℕ) (b : Bytes v) where
       ∙ ap (λ (p : Pair). getD (pairBytes p) (i % 4) 0) (getD-pairs v (i / 4) no-pair (omega arith))
       ∙ pair-read (i / 4) (i % 4) i (omega arith) (omega arith))
 
+pub netlist-without-notes : NetlistWithoutNotes
+unfolding fileOf fileWith
+netlist-without-notes net = ap (λ (fs : Fields). encoded (fs .items)) (file-fields net)
+
 pub netlist-writes-back : NetlistWritesBack
 unfolding fileOf fileWith netlistOf
 netlist-writes-back file b z =
@@ -74,4 +77,3 @@ netlist-writes-back file b z =
     let pairs = pairs-written (valueIn is 2) (byte 2) (f .pairs .whole) in
     let lamp = pairs-written (valueIn is 3) (byte 3) (f .lamp .whole) in
     ap encoded ((λ i. field 1 (contactsOf is ∷ []) ∷ field 4 (gates i) ∷ field 5 (pairs i) ∷ lampField (lamp i)) ∙ sym (f .items))
-    ∙ encoded-of file b (f .whole)

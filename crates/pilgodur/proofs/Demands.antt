@@ -4,6 +4,7 @@ use native.Mathlib.Omega.{arith}
 use mathlib.Core.Path.{_≡_, refl}
 use mathlib.Core.List.{List}
 use Rattle.diagram.specs.declared.Diagram.{Diagram}
+use Rattle.fields.proofs.Encoding.{file-is-row, row-is-read}
 use Rattle.diagram.proofs.Promises.{first-twins, no-twins, pairs-counted, all-pairs}
 use lib.ListN.{length}
 use Rattle.files.proofs.Writing.{refused-writing}
@@ -14,6 +15,8 @@ use Rattle.netlist.specs.Questions.{netlistIn, netlistRefusal}
 use Rattle.simulation.specs.Service.{runRefusal, ranOr, runOf}
 use Rattle.sheet.specs.Sheet.{sheetOf}
 use Rattle.sheet.specs.Service.{sheetingOf}
+use Rattle.table.proofs.Written.{table-without-notes}
+use Rattle.netlist.proofs.Promises.{netlist-without-notes}
 use Rattle.sheet.proofs.Promises.{sheet-determines, sheet-length}
 use Rattle.drawing.specs.Drawing.{drawingIn}
 use Rattle.drawing.specs.Service.{tableFor, drawingRefusal, fromDrawingOf}
@@ -28,6 +31,7 @@ use Rattle.faults.proofs.Promises.{no-wrong-lines, run-writes, no-unseen-line}
 use Rattle.faults.proofs.Spare.{gates-read, spare-contacts, unread-unseen}
 use Rattle.lamp.proofs.Promises.{plain-first, lamp-formulas, lamp-files-pass, different-lamp-netlists, lamp-right-code, lamp-is-code, lamp-no-wrong-code, lamp-shows-stuck-line}
 use Rattle.pilgodur.proofs.Promises.{smallest, probe-writes}
+use Rattle.pilgodur.proofs.Notes.{same-answers}
 use Rattle.pilgodur.specs.Answers.{wayNumber, probeOf}
 use Rattle.pilgodur.specs.Demands.{Refusals, Demands}
 
@@ -106,5 +110,13 @@ demands =
             code = lamp-is-code;
             noWrongCode = lamp-no-wrong-code;
             stuckLine = lamp-shows-stuck-line;
+          };
+      notes =
+          record {
+            row = file-is-row;
+            read = row-is-read;
+            answers = same-answers;
+            tables = table-without-notes;
+            netlists = netlist-without-notes;
           };
     }

@@ -1,3 +1,4 @@
 pub mod Promises
+pub mod Notes
 pub mod Demands
 pub mod Starred

@@ -2,7 +2,7 @@
 use mathlib.Core.Path.{refl}
 use Rattle.pilgodur.specs.Starred.{AllHold, starred}
 use Rattle.fields.specs.Bounded.{all, any, listed, leastFrom}
-use Rattle.fields.specs.Fields.{stepAt, valueOf, fieldsWithin, fieldsFrom, fieldsOf, encoded}
+use Rattle.fields.specs.Fields.{rawStepAt, valueOf, rawFieldsWithin, rawFieldsFrom, butNotes, fieldsFrom, fieldsOf, encoded}
 use Rattle.fields.specs.Refusals.{firstNo}
 use Rattle.files.specs.Header.{contactsIn}
 use Rattle.diagram.specs.Diagram.{width, edgeAt, root, inputOf}
@@ -33,6 +33,6 @@ use Rattle.pilgodur.specs.Answers.{probeOf}
 use mathlib.Core.List.{flatMap}
 
 pub all-starred : AllHold starred
-unfolding all any stepAt valueOf fieldsWithin fieldsFrom fieldsOf encoded contactsIn firstNo width edgeAt root inputOf inRange distinct mention mentions brought numbered outputsIn areLevels padded diagramOf fieldsRefusal diagramRefusal tableRefusal listed anyOf isRead gatesOf pairsOf holdsOf fileOf fileWith drive workOut held valuesOf shownOf formOf isSound areOrdered netlistOf netlistRefusal runRefusal runOf _>>=_ sequence cutWithin cut term blocks.tree joined productEntry product levelMatrix block wholeBlock boardOf depthsOf depthOf codeRails checkedOf writingOf buildingOf lampBuildingOf join lampOf withLamp stuckAt noCode betrays leastFrom probeRefusal probingOf probeOf decimal inFive rowText numberedRows rowsFrom sheetOf sheetingOf flatMap bytesOf same tree place firsts levelOf isNarrow isAbove isDrawing next lead drawing.formOf drawingRefusal fromDrawingOf
+unfolding all any rawStepAt valueOf rawFieldsWithin rawFieldsFrom butNotes fieldsFrom fieldsOf encoded contactsIn firstNo width edgeAt root inputOf inRange distinct mention mentions brought numbered outputsIn areLevels padded diagramOf fieldsRefusal diagramRefusal tableRefusal listed anyOf isRead gatesOf pairsOf holdsOf fileOf fileWith drive workOut held valuesOf shownOf formOf isSound areOrdered netlistOf netlistRefusal runRefusal runOf _>>=_ sequence cutWithin cut term blocks.tree joined productEntry product levelMatrix block wholeBlock boardOf depthsOf depthOf codeRails checkedOf writingOf buildingOf lampBuildingOf join lampOf withLamp stuckAt noCode betrays leastFrom probeRefusal probingOf probeOf decimal inFive rowText numberedRows rowsFrom sheetOf sheetingOf flatMap bytesOf same tree place firsts levelOf isNarrow isAbove isDrawing next lead drawing.formOf drawingRefusal fromDrawingOf
 all-starred =
-    (refl, ((refl, refl, refl), ((refl, refl), ((refl, refl), (refl, (refl, ((refl, refl), (refl, ((refl, refl, refl), (refl, (refl, (refl, ((refl, refl, refl), (refl, (refl, (refl, (refl, ((refl, refl, refl), ((refl, refl, refl), ((refl, refl, refl), ((refl, refl, refl), ((refl, refl, refl), ((refl, refl, refl), ((refl, refl, refl), (refl, ((refl, refl, refl), ((refl, refl, refl), ((refl, refl, refl), ((refl, refl, refl), ((refl, refl), ((refl, refl), ((refl, refl, refl), tt))))))))))))))))))))))))))))))))
+    (refl, ((refl, refl, refl), ((refl, refl), ((refl, refl), (refl, (refl, ((refl, refl), (refl, ((refl, refl, refl), (refl, (refl, (refl, ((refl, refl, refl), (refl, (refl, (refl, (refl, ((refl, refl, refl), ((refl, refl, refl), ((refl, refl, refl), ((refl, refl, refl), ((refl, refl, refl), ((refl, refl, refl), ((refl, refl, refl), (refl, ((refl, refl, refl), ((refl, refl, refl), ((refl, refl, refl), ((refl, refl, refl), ((refl, refl), ((refl, refl), ((refl, refl, refl), (refl, ((refl, refl, refl), (refl, (refl, (refl, ((refl, refl), ((refl, refl, refl), ((refl, refl, refl), ((refl, refl, refl), tt)))))))))))))))))))))))))))))))))))))))))

@@ -6,8 +6,11 @@
 use Prim.Native.Nat.{ℕ, suc}
 use mathlib.Core.Path.{_≡_}
 use mathlib.Core.List.{List}
+use Rattle.fields.specs.Promises.{FileIsRow, RowIsRead}
 use Rattle.diagram.specs.Promises.{FirstTwins, NoTwins, PairsCounted, AllPairs}
+use Rattle.table.specs.Promises.{TableWithoutNotes}
 use Rattle.table.specs.Table.{readingOf}
+use Rattle.netlist.specs.Promises.{NetlistWithoutNotes}
 use Rattle.simulation.specs.Service.{runOf}
 use Rattle.sheet.specs.Service.{sheetingOf}
 use Rattle.sheet.specs.Promises.{SheetDetermines, SheetLength}
@@ -17,6 +20,7 @@ use Rattle.synthesis.specs.Service.{checkedOf, buildingOf, lampBuildingOf}
 use Rattle.rules.specs.Promises.{WithinFormulas, BuiltFilesPass, RightCode, DifferentNetlists}
 use Rattle.pilgodur.specs.Answers.{probeOf}
 use Rattle.pilgodur.specs.Promises.{Smallest, ProbeWrites}
+use Rattle.pilgodur.specs.Notes.{SameAnswers}
 use Rattle.faults.specs.Promises.{NoWrongCode, RunWrites, NoUnseenLine}
 use Rattle.faults.specs.Spare.{GatesRead, SpareContacts, UnreadUnseen}
 use Rattle.lamp.specs.Promises.{PlainFirst, LampFormulas, LampFilesPass, DifferentLampNetlists, LampRightCode, LampCode, LampNoWrongCode, LampShowsStuckLine}
@@ -42,8 +46,8 @@ pub record Refusals : Type 0 where
       (fromDrawingOf drawing buffer .length ≡ 0) × (fromDrawingOf drawing buffer .buffer ≡ buffer)
 
 -- Demand 2. The netlist of an accepted table is the one that the rules give: `buildingOf` and `checkedOf` speak of `boardOf`. It is
--- within the formulas for gates and depth; each pair shows the table's value and its opposite; two different accepted tables have
--- different netlists.
+-- within the formulas for gates and depth; each pair shows the table's value and its opposite; two accepted tables that
+-- differ without their notes have different netlists.
 pub record Netlists : Type 0 where
   pub within : WithinFormulas
   pub pass : BuiltFilesPass
@@ -66,14 +70,14 @@ pub record SpareLines : Type 0 where
   pub contacts : SpareContacts
   pub unseen : UnreadUnseen
 
--- The gate sheet. It determines the netlist once the count of contacts is given; its length by its rows, and the length that is enough
+-- The gate sheet. It determines the netlist, without its notes, once the count of contacts is given; its length by its rows, and the length that is enough
 -- for each.
 pub record Sheets : Type 0 where
   pub determines : SheetDetermines
   pub length : SheetLength
 
 -- Drawings. The result is an accepted table with the drawing's contacts, outputs and words; drawings of the same functions get one table;
--- 17 is given exactly if a level would have more than eight functions; the drawing of an accepted table gives it back.
+-- 17 is given exactly if a level would have more than eight functions; the drawing of an accepted table gives it back, without its notes.
 pub record Drawings : Type 0 where
   pub table : TableOfDrawing
   pub one : OneTable
@@ -102,6 +106,15 @@ pub record Lamps : Type 0 where
   pub noWrongCode : LampNoWrongCode
   pub stuckLine : LampShowsStuckLine
 
+-- Notes: fields with tags of 128 to 255. A whole file is the row of all its fields, and any row of fields is whole; all but the notes
+-- are read. A whole file and that file without its notes get the same answers. The tables and netlists that are written have no notes.
+pub record Notes : Type 0 where
+  pub row : FileIsRow
+  pub read : RowIsRead
+  pub answers : SameAnswers
+  pub tables : TableWithoutNotes
+  pub netlists : NetlistWithoutNotes
+
 pub record Demands : Type 0 where
   pub first : Refusals
   pub second : Netlists
@@ -111,3 +124,4 @@ pub record Demands : Type 0 where
   pub drawings : Drawings
   pub twins : AlikeNodes
   pub lamps : Lamps
+  pub notes : Notes

@@ -149,6 +149,20 @@ steadyLampFile =
     ∷ 5 ∷ 0 ∷ 8 ∷ 0 ∷ 0 ∷ 0 ∷ 1 ∷ 0 ∷ 1 ∷ 0 ∷ 0
     ∷ 6 ∷ 0 ∷ 4 ∷ 0 ∷ 6 ∷ 0 ∷ 9 ∷ []
 
+abbrev pub steadyLampSheet : List String
+steadyLampSheet =
+    " LINE KIN     A     B"
+    ∷ "    4 AND     0     1"
+    ∷ "    5 AND     1     0"
+    ∷ "    6 OR      4     5"
+    ∷ "    7 AND     0     0"
+    ∷ "    8 AND     1     1"
+    ∷ "    9 OR      7     8"
+    ∷ "    0 OUT     0     1"
+    ∷ "    1 OUT     1     0"
+    ∷ "    0 LMP     6     9"
+    ∷ []
+
 -- The selector drawn with a node twice, a node that nothing mentions, and edges past a level.
 abbrev pub redrawn : List ℕ
 redrawn =
@@ -189,6 +203,22 @@ halvesTable =
     ∷ 3 ∷ 0 ∷ 16 ∷ 0 ∷ 1 ∷ 1 ∷ 0 ∷ 0 ∷ 2 ∷ 2 ∷ 1 ∷ 2 ∷ 3 ∷ 3 ∷ 2 ∷ 1 ∷ 2 ∷ 0 ∷ 0
     ∷ 3 ∷ 0 ∷ 8 ∷ 0 ∷ 0 ∷ 1 ∷ 1 ∷ 0 ∷ 1 ∷ 1 ∷ 0
     ∷ []
+
+-- Notes: one of two bytes, an empty one, and one whose value looks like a field.
+abbrev drawingNumber : List ℕ
+drawingNumber = 128 ∷ 0 ∷ 2 ∷ 75 ∷ 54 ∷ []
+
+abbrev emptyNote : List ℕ
+emptyNote = 255 ∷ 0 ∷ 0 ∷ []
+
+abbrev hiddenField : List ℕ
+hiddenField = 200 ∷ 0 ∷ 4 ∷ 3 ∷ 0 ∷ 1 ∷ 0 ∷ []
+
+-- The selector with notes before, between and after its fields.
+abbrev noted : List ℕ
+noted =
+    drawingNumber ++ (1 ∷ 0 ∷ 1 ∷ 3 ∷ []) ++ emptyNote ++ drawingNumber ++ (2 ∷ 0 ∷ 1 ∷ 0 ∷ 3 ∷ 0 ∷ 2 ∷ 0 ∷ 1 ∷ []) ++ hiddenField
+    ++ (3 ∷ 0 ∷ 4 ∷ 0 ∷ 1 ∷ 0 ∷ 2 ∷ 3 ∷ 0 ∷ 6 ∷ 0 ∷ 1 ∷ 0 ∷ 0 ∷ 1 ∷ 1 ∷ []) ++ emptyNote
 
 abbrev pub starred : List Case
 starred =
@@ -246,16 +276,15 @@ starred =
     -- The lamp's pair last; with line 8 held at 0 it shows 00.
     ∷ runs steadyLampFile (1 ∷ 0 ∷ []) [] (0 ∷ 1 ∷ 1 ∷ 0 ∷ 0 ∷ 1 ∷ [])
     ∷ runs steadyLampFile (1 ∷ 0 ∷ []) (0 ∷ 8 ∷ 0 ∷ []) (0 ∷ 1 ∷ 1 ∷ 0 ∷ 0 ∷ 0 ∷ [])
-    ∷ sheets steadyLampFile
-    (" LINE KIN     A     B"
-    ∷ "    4 AND     0     1"
-    ∷ "    5 AND     1     0"
-    ∷ "    6 OR      4     5"
-    ∷ "    7 AND     0     0"
-    ∷ "    8 AND     1     1"
-    ∷ "    9 OR      7     8"
-    ∷ "    0 OUT     0     1"
-    ∷ "    1 OUT     1     0"
-    ∷ "    0 LMP     6     9"
-    ∷ [])
+    ∷ sheets steadyLampFile steadyLampSheet
+    -- Notes are passed over; a field of tag 127 and a note cut short are not.
+    ∷ checks noted 0 3 1 9 4
+    ∷ builds noted 59 selectorFile
+    ∷ probes noted (0 ∷ 10 ∷ 1 ∷ []) 0 3 0 1
+    ∷ checks (noted ++ (127 ∷ 0 ∷ 0 ∷ [])) 4 0 0 0 0
+    ∷ checks (noted ++ (128 ∷ 0 ∷ 1 ∷ [])) 1 0 0 0 0
+    ∷ runs (hiddenField ++ selectorFile ++ drawingNumber) (1 ∷ 0 ∷ 1 ∷ 0 ∷ 0 ∷ 1 ∷ []) [] (1 ∷ 0 ∷ [])
+    ∷ sheets (emptyNote ++ steadyLampFile ++ drawingNumber) steadyLampSheet
+    ∷ draws (drawingNumber ++ redrawn ++ emptyNote) 0 selector
+    ∷ draws (redrawn ++ (128 ∷ 0 ∷ [])) 16 []
     ∷ []

@@ -25,7 +25,8 @@ use denote.Struct.Declared.{Declared}
 use denote.Struct.Laws as LL
 use denote.Struct.Rest.{all-own, ownAt, rest, own-open, own-out, own-shut}
 use denote.Struct.Values.{Values}
-use Rattle.fields.specs.Fields.{stepAt, fieldsFrom}
+use Rattle.fields.specs.Fields.{fieldsFrom}
+use Rattle.fields.specs.Inner.Walk.{stepAt}
 use Rattle.fields.specs.declared.Cursor.{Cursor}
 use Rattle.fields.specs.declared.Step.{Step}
 use Rattle.fields.proofs.Cursor as C

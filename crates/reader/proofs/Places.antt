@@ -8,7 +8,8 @@ use denote.Enum.Declared.{tagOf}
 use types.Run.{OneOf}
 use Rattle.fields.specs.declared.Step.{Step}
 use Rattle.fields.specs.declared.Step.the-variants.{Next, End, Cut}
-use Rattle.fields.specs.Fields.{Fields, stepAt, fieldsAfter, fieldsFrom, valueIn}
+use Rattle.fields.specs.Fields.{Fields, fieldsAfter, fieldsFrom, valueIn}
+use Rattle.fields.specs.Inner.Walk.{stepAt}
 use Rattle.fields.proofs.Step.{the-type}
 use Rattle.fields.proofs.Steps.{walk}
 use Rattle.reader.specs.Inner.Found.{foundIn}

@@ -7,8 +7,7 @@ use fields::value;
 pub use place::nth;
 ghost use mathlib.Core.Path.{_≡_};
 ghost use lib.ListN.{drop};
-ghost use Rattle.fields.specs.Fields.{stepAt};
-ghost use Rattle.fields.specs.Inner.Walk.{itemsFrom};
+ghost use Rattle.fields.specs.Inner.Walk.{stepAt, itemsFrom};
 ghost use Rattle.reader.specs.Inner.Found.{foundIn};
 
 // The value of the field that a step found, as that part of the file; nothing where it found none.

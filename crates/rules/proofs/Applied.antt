@@ -4,7 +4,7 @@ use Prim.Native.Nat.{ℕ}
 use mathlib.Core.Path.{_≡_, refl}
 use mathlib.Core.List.{List, [], _∷_, flatMap}
 use Rattle.fields.specs.Bounded.{any, listed}
-use Rattle.fields.specs.Fields.{stepAt, valueOf, fieldsWithin, fieldsFrom, fieldsOf}
+use Rattle.fields.specs.Fields.{rawStepAt, valueOf, rawFieldsWithin, rawFieldsFrom, butNotes, fieldsFrom, fieldsOf}
 use Rattle.diagram.specs.Diagram.{width, edgeAt, root}
 use Rattle.table.specs.Table.{padded, diagramOf, diagramIn}
 use Rattle.netlist.specs.declared.Gate.{Gate}
@@ -31,7 +31,7 @@ selector =
 
 -- Its formulas: 2 * 9 * 5 gates, and the depth 2 * (1 + 2).
 pub selector-most : (gatesMost (diagramIn selector) ≡ 90) × (depthMost (diagramIn selector) ≡ 6)
-unfolding stepAt valueOf fieldsWithin fieldsFrom fieldsOf padded diagramOf flatMap width widestTo widest leastPower log2up gatesMost depthMost
+unfolding rawStepAt valueOf rawFieldsWithin rawFieldsFrom butNotes fieldsFrom fieldsOf padded diagramOf flatMap width widestTo widest leastPower log2up gatesMost depthMost
 selector-most = (refl, refl)
 
 -- Four contacts, two outputs, widths 2, 2, 4 and 2: contact 3 where contacts 0 and 1 choose never, contact 2 open, always, or
@@ -54,7 +54,7 @@ pub chooser-board :
       pairs = pair 30 25 ∷ pair 33 32 ∷ [];
       lamp = [];
     }
-unfolding any stepAt valueOf fieldsWithin fieldsFrom fieldsOf padded diagramOf flatMap width edgeAt root listed _>>=_ sequence cutWithin cut term tree joined productEntry product levelMatrix block wholeBlock boardOf
+unfolding any rawStepAt valueOf rawFieldsWithin rawFieldsFrom butNotes fieldsFrom fieldsOf padded diagramOf flatMap width edgeAt root listed _>>=_ sequence cutWithin cut term tree joined productEntry product levelMatrix block wholeBlock boardOf
 chooser-board = refl
 
 -- The lamp of four pairs: lines 10 to 15 join the first two, 16 to 21 the others, 22 to 27 what they come to.

@@ -64,5 +64,5 @@ different-netlists a b (abytes, ayes) (bbytes, byes) e =
     let one = file-determines (tableBoard a) (tableBoard b) e in
     let some = accepted a ayes .sized .contacts .0 in
     let same = injective d f one (accepted a ayes .reduced) (accepted b byes .reduced) some in
-    sym (bytes-are a (accepted a ayes) abytes) ∙ same-file d f (same-contacts d f one) (same-outputs d f one) same
-    ∙ bytes-are b (accepted b byes) bbytes
+    sym (bytes-are a (accepted a ayes)) ∙ same-file d f (same-contacts d f one) (same-outputs d f one) same
+    ∙ bytes-are b (accepted b byes)

@@ -3,7 +3,7 @@ use Prim.Native.Nat.{ℕ, _+_, _*_, _-_, _≤_, _<_}
 use mathlib.Core.Path.{_≡_}
 use mathlib.Core.List.{List, []}
 use lib.ListN.{length, getD}
-use Rattle.fields.specs.Fields.{Bytes}
+use Rattle.fields.specs.Fields.{Bytes, withoutNotes}
 use Rattle.diagram.specs.Diagram.{Input, valueAt}
 use Rattle.table.specs.Promises.{Accepted}
 use Rattle.table.specs.Table.{diagramIn}
@@ -38,7 +38,8 @@ RightCode =
     let value = valueAt (diagramIn table) x j in
     (getD pairs (2 * j) 0 ≡ value) × (getD pairs (2 * j + 1) 0 ≡ 1 - value)
 
--- Two different accepted tables have different netlists.
+-- Two accepted tables that differ without their notes have different netlists.
 abbrev pub DifferentNetlists : Type 0
 DifferentNetlists =
-    (a b : List ℕ) → Accepted a → Accepted b → fileOf (tableBoard a) ≡ fileOf (tableBoard b) → a ≡ b
+    (a b : List ℕ) → Accepted a → Accepted b → fileOf (tableBoard a) ≡ fileOf (tableBoard b) →
+    withoutNotes a ≡ withoutNotes b

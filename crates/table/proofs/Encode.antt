@@ -1,4 +1,4 @@
--- An accepted file is the table file of its diagram.
+-- An accepted file without its notes is the table file of its diagram.
 use Prim.Native.Nat.{ℕ, _*_, _<_}
 use native.Mathlib.Omega.{arith}
 use mathlib.Core.Path.{_≡_, sym, ap, ap₂, _∙_}
@@ -7,8 +7,7 @@ use lib.ListN.{getD, drop}
 use lib.Seq.{drop-drop}
 use Rattle.fields.specs.Bounded.{listed}
 use Rattle.fields.proofs.Listed.{listed-is}
-use Rattle.fields.specs.Fields.{Bytes, Item, fieldsOf, encoded, valueIn}
-use Rattle.fields.proofs.Encoding.{encoded-of}
+use Rattle.fields.specs.Fields.{Item, fieldsOf, encoded, withoutNotes, valueIn}
 use Rattle.diagram.specs.Diagram.{width, edgeAt, root}
 use Rattle.table.specs.Encode.{levelItem, itemsOf, bytesOf, contentsOf, tableBytes}
 use Rattle.table.specs.Table.{diagramIn}
@@ -52,6 +51,6 @@ module _ (file : List ℕ) (t : AcceptedTable file) where
       let second = ap₂ (λ (v : List ℕ) (l : List Item). field 2 v ∷ l) outputs-are third ∙ sym (m .split) ∙ ap (drop 1) (n .split) in
       ap (λ (l : List Item). field 1 (d .contacts ∷ []) ∷ l) second ∙ sym (n .split)
 
-  pub bytes-are : Bytes file → tableBytes (diagramIn file) ≡ file
+  pub bytes-are : tableBytes (diagramIn file) ≡ withoutNotes file
   unfolding bytesOf
-  bytes-are b = ap encoded items-are ∙ encoded-of file b (t .framing)
+  bytes-are = ap encoded items-are

@@ -33,7 +33,7 @@ nodes-apart file t l u v h hu hv ne =
     (a, ha, λ p. told (sym (along u) ∙ p ∙ along v))
 
 pub table-writes-back : TableWritesBack
-table-writes-back file t = bytes-are file (accepted file (t .1)) (t .0)
+table-writes-back file t = bytes-are file (accepted file (t .1))
 
 pub same-bytes : SameWords
 same-bytes file other t t' n m words =

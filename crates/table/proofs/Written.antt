@@ -11,7 +11,8 @@ use Rattle.fields.specs.Fields.{Bytes, Item, Fields, fieldsOf, encoded}
 use Rattle.fields.specs.Bounded.{listed}
 use Rattle.fields.specs.Refusals.{firstNo}
 use Rattle.fields.proofs.Listed.{length-listed, listed-at}
-use Rattle.fields.proofs.Encoding.{of-encoded}
+use Rattle.fields.proofs.Every.{every-listed}
+use Rattle.fields.proofs.Notes.{Plain, of-encoded}
 use Rattle.fields.proofs.Small.{Small, none, first, bytes, small, field-small, fields-small}
 use Rattle.files.specs.declared.header.Contacts.the-variants.{Counted}
 use Rattle.files.specs.Header.{contactsIn, contactsOf}
@@ -21,6 +22,7 @@ use Rattle.diagram.specs.Diagram.{width, edgeAt, root}
 use Rattle.diagram.proofs.Asked.{width-is}
 use Rattle.table.specs.declared.fit.Outputs.the-variants.{Listed, Unlisted}
 use Rattle.table.specs.declared.fit.Levels.the-variants.{Given, Lacking}
+use Rattle.table.specs.Promises.{TableWithoutNotes}
 use Rattle.table.specs.Encode.{Contents, levelItem, itemsOf, bytesOf}
 use Rattle.table.specs.Table.{outputsIn, levelsIn, levelsOf, diagramOf, diagramIn, fieldsRefusal}
 use Rattle.table.proofs.Decoded.{half}
@@ -36,7 +38,13 @@ pub record Limits (c : Contents) : Type 0 where
 
 pub fields-back : (c : Contents) → fieldsOf (bytesOf c) ≡ record { items = itemsOf c; framing = Whole }
 unfolding bytesOf
-fields-back c = of-encoded (itemsOf c)
+fields-back c =
+    of-encoded (itemsOf c)
+    (omega arith, (omega arith, every-listed Plain (levelItem c) (c .contacts) 0 (λ l h. omega arith)))
+
+pub table-without-notes : TableWithoutNotes
+unfolding bytesOf
+table-without-notes c = ap (λ (fs : Fields). encoded (fs .items)) (fields-back c)
 
 -- The diagram that the file holds.
 pub diagram-back : (c : Contents) → diagramIn (bytesOf c) ≡ diagramOf (itemsOf c)

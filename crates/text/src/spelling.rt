@@ -1,5 +1,6 @@
 // The parts of a case. Bytes are spelt with one sign each: 0 to 9, a to z for 10 to 35, A to Z and the six signs behind Z for 36
-// to 67. Numbers are written with digits. Signs below 0, the space among them, stand for nothing, but a stroke ends a part.
+// to 67, the three signs behind z for 127 to 129. Numbers are written with digits. Signs below 0, the space among them, stand for
+// nothing, but a stroke ends a part.
 use crate::print;
 ghost use Prim.Native.Nat.{_+_, _≤_, _<_};
 ghost use lib.ListN.{length};
@@ -59,6 +60,9 @@ fn byte_of(sign: u8) -> u8 {
     }
     if sign < 123 {
         return sign - 87;
+    }
+    if sign < 126 {
+        return sign + 4;
     }
     NO_BYTE
 }

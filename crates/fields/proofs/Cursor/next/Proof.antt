@@ -1,65 +1,64 @@
--- `Cursor::next` meets its contract: each answer is the case of `stepAt` that the tests before it lead to.
+-- `Cursor::next` meets its contract. The loop's invariant: what stands at the cursor is what stands where it began. The measure is what
+-- is left of the file.
 use borrow.Author.Needs.{needs}
 use native.Mathlib.Omega.{arith}
-use Rattle.fields.proofs.Steps.{step-end, step-cut, step-next}
+use Prim.Native.Nat.{_-_}
+use mathlib.Core.Path.{_≡_, refl, sym, _∙_}
+use lib.ListN.{length}
+use Rattle.fields.specs.Inner.Walk.{stepAt}
+use Rattle.fields.proofs.Raw.{raw-stands}
+use Rattle.fields.proofs.Steps.{past-note, no-note, step-none}
 use Rattle.fields.proofs.Cursor.next.Statement.{statement}
 use Rattle.fields.proofs.Cursor.next.Tie as tie
 
-returns : tie.Need-returns
-returns c = step-end _ _ (omega arith)
+abbrev Inv-loop : tie.InvT-loop
+Inv-loop file cursor₀ cursor = stepAt file (cursor₀ .at) ≡ stepAt file (cursor .at)
 
-sub-left : tie.Need-sub-left
-sub-left c = search needs
+abbrev μ-loop : tie.MeasureT-loop
+μ-loop file cursor₀ cursor = length file - cursor .at
 
-returns-2 : tie.Need-returns-2
-returns-2 c = step-cut _ _ (omega arith) (omega arith)
+loop-holds : tie.Need-loop-holds Inv-loop μ-loop
+loop-holds c = refl
 
-add-number : tie.Need-add-number
-add-number c = search needs
+raw-next-requires : tie.Need-raw-next-requires Inv-loop μ-loop
+raw-next-requires c κs = search needs
 
-shared-slice-read-number : tie.Need-shared-slice-read-number
-shared-slice-read-number c = search needs
+enum-known-step : tie.Need-enum-known-step Inv-loop μ-loop
+enum-known-step c = search needs
 
-add-number-2 : tie.Need-add-number-2
-add-number-2 c = search needs
+returns : tie.Need-returns Inv-loop μ-loop
+returns c =
+    let step = c .before in
+    sym (step .before .loop .inv ∙ step-none _ _ _ (sym (step .raw-next .ensures)) (c .match .keys2))
 
-shared-slice-read-number-2 : tie.Need-shared-slice-read-number-2
-shared-slice-read-number-2 c = search needs
+returns-2 : tie.Need-returns-2 Inv-loop μ-loop
+returns-2 c =
+    let known = c .before .before .before in
+    let step = known .before .before in
+    sym (step .before .loop .inv ∙ no-note _ _ (sym (step .raw-next .ensures) ∙ known .step .given .1) (omega (arith, c .if1)))
 
-number-requires : tie.Need-number-requires
-number-requires c κs = search needs
+loop-less : tie.Need-loop-less Inv-loop μ-loop
+loop-less c =
+    let known = c .before .before .before in
+    let s = raw-stands _ _ _ _ (sym (known .before .before .raw-next .ensures) ∙ known .step .given .1) .1 in
+    omega (arith, s)
 
-returns-3 : tie.Need-returns-3
-returns-3 c = step-cut _ _ (omega arith) (omega (arith, c .before .number .ensures))
-
-add-start : tie.Need-add-start
-add-start c = search needs
-
-shared-slice-read-t13 : tie.Need-shared-slice-read-t13
-shared-slice-read-t13 c = search needs
-
-add-t11 : tie.Need-add-t11
-add-t11 c = search needs
-
-returns-4 : tie.Need-returns-4
-returns-4 c =
-    let e = c .before .before .number .ensures in
-    rw e (step-next _ _ (omega arith) (omega (arith, e)))
+loop-again : tie.Need-loop-again Inv-loop μ-loop
+loop-again c =
+    let known = c .before .before .before in
+    let step = known .before .before in
+    step .before .loop .inv ∙ past-note _ _ (sym (step .raw-next .ensures) ∙ known .step .given .1) (omega (arith, c .if1))
 
 pub next-spec : {M : Type 1} → statement M
 next-spec =
     tie.close
     (tie.spec
+    Inv-loop
+    μ-loop
+    loop-holds
+    raw-next-requires
+    enum-known-step
     returns
-    sub-left
     returns-2
-    add-number
-    shared-slice-read-number
-    add-number-2
-    shared-slice-read-number-2
-    number-requires
-    returns-3
-    add-start
-    shared-slice-read-t13
-    add-t11
-    returns-4)
+    loop-less
+    loop-again)

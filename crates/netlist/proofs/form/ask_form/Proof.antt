@@ -2,7 +2,7 @@
 use borrow.Author.Needs.{needs}
 use native.Mathlib.Omega.{arith}
 use borrow.Author.Tests.{not-true, not-false}
-use mathlib.Core.Path.{sym, ap, _∙_}
+use mathlib.Core.Path.{sym, _∙_}
 use Rattle.files.proofs.WholeParts.{parted}
 use Rattle.netlist.proofs.Forms.{broken, uncounted, gates-misparted, outputs-misparted, misended, formed}
 use Rattle.netlist.proofs.form.ask_form.Statement.{statement}

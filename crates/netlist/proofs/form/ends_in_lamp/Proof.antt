@@ -2,7 +2,7 @@
 use borrow.Author.Needs.{needs}
 use native.Mathlib.Omega.{arith}
 use borrow.Author.Tests.{not-true, not-false}
-use mathlib.Core.Path.{sym, ap, _∙_}
+use mathlib.Core.Path.{sym, _∙_}
 use Rattle.files.proofs.WholeParts.{parted}
 use Rattle.netlist.proofs.form.ends_in_lamp.Statement.{statement}
 use Rattle.netlist.proofs.form.ends_in_lamp.Tie as tie
