@@ -657,6 +657,13 @@ try draw hex:800010010001010200010007000080
 try draw hex:efbbbf
 try draw hex:01000101020001000700007f0000
 try list hex:010001017f0000040000050004000200037f0000
+# Several notes in a row; a netlist that is cut short within its gates, and one within a note before them; a cut note behind a whole one.
+try list hex:800000810001618000000100010180000081000004000080000080000005000400020003800000800000
+try draw hex:800000810001610100010180000080000002000100ff0000800000070000800000800000
+try list hex:010001030400050000
+try list hex:01000103800000040005
+try list hex:0100010380000104
+try draw hex:800000efbbbf
 # build --note: the note is the last field, with the lamp and without; an empty one; several; the longest; one that is too long.
 try build selector.table --note 'AB-17, sheet 3'
 try build single.table --note=x --lamp

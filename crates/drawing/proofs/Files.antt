@@ -57,4 +57,4 @@ module _ (d : Diagram) (s : Sized d) where
   pub file-formed : inRange d ≡ true → WellFormed (drawingFor d)
   file-formed ranged =
       ap (λ (fs : Fields). formNumber (formOf fs)) (file-fields d)
-      ∙ ap formNumber (sym (formed (record { items = itemsOf d; framing = Whole }) refl counted outputs-whole nodes-listed refl (redrawn-sound d ranged)))
+      ∙ ap formNumber (sym (formed (record { items = itemsOf d; framing = Whole }) counted outputs-whole nodes-listed refl refl (redrawn-sound d ranged)))

@@ -2,17 +2,20 @@
 use Prim.Native.Nat.{ℕ, zero, suc, _*_, _-_, _≤_, _<_}
 use native.Mathlib.Omega.{arith}
 use mathlib.Core.Path.{_≡_, refl, sym, ap, _∙_}
-use mathlib.Core.Bool.{Bool, true, false, and-false}
+use mathlib.Core.Bool.{Bool, true, false, _&&_, and-false}
 use mathlib.Core.List.{List}
-use borrow.Author.Tests.{lt-ltb, le-ltb}
-use lib.Dec.{ltb, leb}
+use borrow.Author.Tests.{lt-ltb, le-ltb, leb-false, lt-leb}
+use lib.Dec.{ltb, leb, eqb}
 use lib.ListN.{length, getD}
-use Rattle.fields.specs.declared.Framing.the-variants.{Whole, Broken}
 use Rattle.fields.specs.Bounded.{all}
 use Rattle.fields.specs.Fields.{Item, Fields, itemIn, valueIn}
+use Rattle.fields.specs.Refusals.{framingNumber}
+use Rattle.fields.proofs.Bounded.{and-left}
 use Rattle.files.specs.declared.header.Contacts.the-variants.{Counted, Uncounted}
 use Rattle.files.specs.Header.{contactsOf, contactsIn, hasParts}
+use Rattle.files.specs.Inner.Row.{endsWithin}
 use Rattle.files.proofs.Heads.{counted}
+use Rattle.files.proofs.Taking.{three-or-four}
 use Rattle.drawing.specs.declared.form.Form.the-variants.{Formed, Unformed}
 use Rattle.drawing.specs.Drawing.{Drawing, drawingOf, nodeCount, levelIn, edgeIn, isNumber, isAbove, isNode, isDrawing, formOf}
 
@@ -66,10 +69,6 @@ parts-are is c e f g =
     let n = sym (contacts-are is c) in sym (g ∙ λ i. isDrawing (record { contacts = n i; outputs = e i; nodes = f i }))
 
 module _ (fs : Fields) where
-  pub broken : fs .framing ≡ Broken → Unformed ≡ formOf fs
-  unfolding formOf
-  broken e = simp e
-
   pub uncounted : contactsIn (fs .items) ≡ Uncounted → Unformed ≡ formOf fs
   unfolding formOf
   uncounted e = simp (e, and-false)
@@ -82,19 +81,29 @@ module _ (fs : Fields) where
   unfolding formOf
   second-misparted e = simp (e, and-false)
 
-  pub too-many : leb (length (fs .items)) 3 ≡ false → Unformed ≡ formOf fs
+  pub too-many : leb 4 (length (fs .items)) ≡ true → Unformed ≡ formOf fs
   unfolding formOf
-  too-many e = simp (e, and-false)
+  too-many e = simp (three-or-four (length (fs .items)) true e, and-false)
+
+  pub unended : endsWithin 4 fs ≡ false → Unformed ≡ formOf fs
+  unfolding formOf
+  unended = go (eqb (framingNumber (fs .framing)) 0) refl
+    where
+      go : (b : Bool) → eqb (framingNumber (fs .framing)) 0 ≡ b → (b && leb (length (fs .items)) 4) ≡ false → Unformed ≡ formOf fs
+      go true w e = simp (lt-leb (length (fs .items)) 3 (omega (arith, leb-false (length (fs .items)) 4 e)), and-false)
+      go false w e = simp w
 
   pub unsound : isDrawing (drawingOf (fs .items)) ≡ false → Unformed ≡ formOf fs
   unfolding formOf
   unsound e = simp (e, and-false)
 
-  pub formed : {n : ℕ} → fs .framing ≡ Whole → contactsIn (fs .items) ≡ Counted n →
+  pub formed : {n : ℕ} → contactsIn (fs .items) ≡ Counted n →
       hasParts 2 1 1 8 (itemIn (fs .items) 1) ≡ true → hasParts 7 3 0 200 (itemIn (fs .items) 2) ≡ true →
-      leb (length (fs .items)) 3 ≡ true → isDrawing (drawingOf (fs .items)) ≡ true → Formed n ≡ formOf fs
+      leb 4 (length (fs .items)) ≡ false → endsWithin 4 fs ≡ true → isDrawing (drawingOf (fs .items)) ≡ true → Formed n ≡ formOf fs
   unfolding formOf
-  formed w e p q m s = ap Formed (sym (contacts-are (fs .items) e)) ∙ simp (w, e, p, q, m, s)
+  formed e p q f m s =
+      let w = and-left (eqb (framingNumber (fs .framing)) 0) (leb (length (fs .items)) 4) m in
+      ap Formed (sym (contacts-are (fs .items) e)) ∙ simp (w, e, p, q, three-or-four (length (fs .items)) false f, s)
 
 -- The nodes, then the outputs.
 module _ (d : Drawing) where

@@ -1,11 +1,12 @@
 // Question 16: the form of a drawing.
-use fields::Framing;
 use files::Contacts;
+use files::Row;
 ghost use mathlib.Core.Path.{_≡_};
 ghost use Prim.Native.Nat.{_/_, _<_};
 ghost use lib.ListN.{length, getD};
 ghost use Rattle.fields.specs.Bounded.{all};
 ghost use Rattle.fields.specs.Fields.{fieldsOf};
+ghost use Rattle.files.specs.Inner.Row.{Opens};
 ghost use Rattle.drawing.specs.Drawing.{nodeCount, isNumber, isAbove, isNode, isDrawing, formOf};
 
 // Question 16's answer: the count of contacts.
@@ -80,24 +81,26 @@ fn is_sound(n: usize, outputs: &[u8], nodes: &[u8]) -> bool
 
 // Question 16: does the file have whole fields of tags 1, 2, 7 in that order and no more, tag 1 as in question 2, tag 2 of 1 to 8
 // outputs, tag 7 of 0 to 200 whole nodes, and is each node and each output as it should be?
-pub fn ask_form(file: &[u8]) -> Form
+pub fn ask_form(file: &[u8], row: Row) -> Form
+    requires { ⌜ Opens (now file) row ⌝ }
     ensures { λ r. ⌜ r ≡ formOf (fieldsOf (now (file .entry))) ⌝ }
 {
-    let Framing::Whole = fields::whole(file) else {
+    let contacts = row.first;
+    let outputs = row.second;
+    let nodes = row.third;
+    let Contacts::Counted(n) = files::count_contacts(file, contacts) else {
         return Form::Unformed;
     };
-    let Contacts::Counted(n) = files::count_contacts(file) else {
-        return Form::Unformed;
-    };
-    let outputs = files::field_at(file, 1);
     if !files::has_parts(file, outputs, 2, 1, 1, 8) {
         return Form::Unformed;
     }
-    let nodes = files::field_at(file, 2);
     if !files::has_parts(file, nodes, 7, 3, 0, 200) {
         return Form::Unformed;
     }
-    if !files::at_most(file, 3) {
+    if row.four {
+        return Form::Unformed;
+    }
+    if !row.ends {
         return Form::Unformed;
     }
     if !is_sound(n, fields::value(file, outputs), fields::value(file, nodes)) {

@@ -12,10 +12,16 @@ pub fn from_drawing(drawing: &[u8], table: &mut [u8]) -> Written
     ensures { λ r. ⌜ record { refusal = r .refusal; length = r .length; buffer = now (table .exit) }
         ≡ fromDrawingOf (now (drawing .entry)) (now (table .entry)) ⌝ }
 {
-    let Form::Formed(n) = form::ask_form(drawing) else {
+    let row = files::first_four(drawing);
+    let outputs = row.second;
+    let nodes = row.third;
+    let Form::Formed(n) = form::ask_form(drawing, row) else {
         return files::refused(16);
     };
-    let outputs = reader::nth(drawing, 1);
-    let nodes = reader::nth(drawing, 2);
-    writing::write_table(n, outputs, nodes, table)
+    writing::write_table(
+        n,
+        fields::value(drawing, outputs),
+        fields::value(drawing, nodes),
+        table,
+    )
 }

@@ -73,6 +73,7 @@ rawFieldsFrom file at = rawFieldsWithin (suc (length file)) file at
 abbrev pub isNote : ℕ → Bool
 isNote tag = leb 128 tag
 
+-- The fields that are none.
 unfoldable pub butNotes : List Item → List Item
 butNotes [] = []
 butNotes (i ∷ is) = cond (isNote (i .tag)) (butNotes is) (i ∷ butNotes is)

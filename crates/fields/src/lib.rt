@@ -1,4 +1,5 @@
-// Files as rows of fields: one tag byte, two length bytes (high byte first), the value.
+// Files as rows of fields: one tag byte, two length bytes (high byte first), the value. Fields with tags of 128 to 255 are notes; the
+// cursor passes over them.
 ghost use mathlib.Core.Path.{_≡_};
 ghost use Rattle.fields.specs.Fields.{rawStepAt, valueOf, fieldsOf, numberOf};
 ghost use Rattle.fields.specs.Inner.Walk.{stepAt, itemsFrom};

@@ -1,2 +1,3 @@
 pub mod Header
 pub mod Room
+pub mod Inner

@@ -1,9 +1,9 @@
 // The field that tables and netlists begin with.
-use fields::Cursor;
-use fields::Step;
+use fields::Field;
 use fields::value;
 ghost use mathlib.Core.Path.{_≡_};
-ghost use Rattle.fields.specs.Fields.{fieldsOf};
+ghost use mathlib.Core.List.{[], _∷_};
+ghost use Rattle.fields.specs.Fields.{itemOf};
 ghost use Rattle.files.specs.Header.{contactsIn};
 
 // Question 2's answer: the count of contacts.
@@ -12,13 +12,10 @@ pub enum Contacts {
     Uncounted,
 }
 
-// Question 2: is the first field tag 1, length 1, value 1 to 12?
-pub fn count_contacts(file: &[u8]) -> Contacts
-    ensures { λ r. ⌜ r ≡ contactsIn (fieldsOf (now (file .entry)) .items) ⌝ }
+// Question 2 of a file's first field: is it tag 1, length 1, value 1 to 12?
+pub fn count_contacts(file: &[u8], field: Field) -> Contacts
+    ensures { λ r. ⌜ r ≡ contactsIn (itemOf (now (file .entry)) field ∷ []) ⌝ }
 {
-    let Step::Next(field, _) = Cursor::new().next(file) else {
-        return Contacts::Uncounted;
-    };
     let tag = field.tag;
     let contents = value(file, field);
     if tag != 1 {

@@ -16,15 +16,16 @@ use Rattle.fields.proofs.Every.{Every}
 use Rattle.fields.proofs.Notes.{Plain, of-encoded}
 use Rattle.fields.proofs.Parts.{length-parts, part-at}
 use Rattle.files.specs.Header.{contactsIn}
+use Rattle.files.specs.Inner.Row.{endsWithin}
 use Rattle.files.proofs.Heads.{field}
 use Rattle.files.proofs.WholeParts.{whole-parts}
 use Rattle.netlist.specs.declared.Gate.{Gate}
 use Rattle.netlist.specs.declared.Pair.{Pair}
 use Rattle.netlist.specs.declared.form.Form.the-variants.{Formed}
 use Rattle.netlist.specs.Netlist.{Netlist, gateLine, lineCount, gateAt, pairAt, gatesOf, pairsOf, gateBytes, pairBytes, netWith, lampField, fileWith, fileOf}
-use Rattle.netlist.specs.Questions.{endsInLamp, isGate, isPair, arePairs, formOf, isSound, netlistOf, netlistRefusal}
+use Rattle.netlist.specs.Questions.{isGate, isPair, arePairs, formOf, isSound, netlistOf, netlistRefusal}
 use Rattle.netlist.specs.Inner.Lengths.{lampLength}
-use Rattle.netlist.proofs.Forms.{formed}
+use Rattle.netlist.proofs.Forms.{mayBeLamp, formed}
 use Rattle.netlist.proofs.Lists.{length-gates, getD-gates, length-pairs, getD-pairs}
 use Rattle.netlist.proofs.Tests.{on-gate, in-pair, Bounds, Wired, PairsIn, PairsWired, LampWired}
 use Rattle.netlist.proofs.Written.{length-file}
@@ -129,10 +130,11 @@ pub file-determines : (a b : Netlist) → fileOf a ≡ fileOf b → a ≡ b
 file-determines a b e = sym (reads-back a) ∙ ap (λ (f : List ℕ). netlistOf (fieldsOf f .items)) e ∙ reads-back b
 
 -- At most one lamp ends a file as it should.
-ends-formed : (i j k : Item) (ps : List Pair) → length ps ≤ 1 → endsInLamp (i ∷ j ∷ k ∷ lampField (flatMap pairBytes ps)) ≡ true
+ends-formed : (i j k : Item) (ps : List Pair) → length ps ≤ 1 → let is = i ∷ j ∷ k ∷ lampField (flatMap pairBytes ps) in
+    (mayBeLamp is ≡ true) × (endsWithin 4 (record { items = is; framing = Whole }) ≡ true)
 unfolding flatMap
-ends-formed i j k [] h = refl
-ends-formed i j k (p ∷ []) h = refl
+ends-formed i j k [] h = (refl, refl)
+ends-formed i j k (p ∷ []) h = (refl, refl)
 ends-formed i j k (p ∷ q ∷ ps) h = absurd (omega arith)
 
 module _ (net : Netlist) (b : Bounds net) where
@@ -141,11 +143,13 @@ module _ (net : Netlist) (b : Bounds net) where
   items-formed =
       let g = length-gate-bytes (net .gates) in
       let p = length-pair-bytes (net .pairs) in
-      formed (record { items = itemsOf net; framing = Whole }) refl
+      let ends =
+      ends-formed (field 1 (net .contacts ∷ [])) (field 4 (flatMap gateBytes (net .gates))) (field 5 (flatMap pairBytes (net .pairs))) (net .lamp) (b .lamp) in
+      formed (record { items = itemsOf net; framing = Whole })
       (simp (le-leb _ _ (b .least), le-leb _ _ (b .most)))
       (whole-parts 4 5 0 10602 (flatMap gateBytes (net .gates)) (omega arith) (omega arith) (omega arith))
       (whole-parts 5 4 1 8 (flatMap pairBytes (net .pairs)) (omega arith) (omega arith) (omega arith))
-      (ends-formed (field 1 (net .contacts ∷ [])) (field 4 (flatMap gateBytes (net .gates))) (field 5 (flatMap pairBytes (net .pairs))) (net .lamp) (b .lamp))
+      (ends .0) (ends .1)
 
   pub file-formed : formOf (fieldsOf (fileOf net)) ≡ Formed (net .contacts)
   file-formed = ap formOf (file-fields net) ∙ sym items-formed

@@ -2,14 +2,18 @@
 use crate::Gate;
 use crate::Hold;
 use crate::Pair;
-use fields::Framing;
+use fields::Field;
 use files::Contacts;
+use files::Row;
 ghost use mathlib.Core.Path.{_≡_};
 ghost use Prim.Native.Nat.{_+_, _*_, _≤_};
 ghost use lib.ListN.{length};
-ghost use Rattle.fields.specs.Fields.{fieldsOf};
+ghost use mathlib.Core.Bool.{not, _||_};
+ghost use Rattle.fields.specs.Fields.{itemOf, fieldsOf};
+ghost use Rattle.files.specs.Header.{hasParts};
+ghost use Rattle.files.specs.Inner.Row.{Opens};
 ghost use Rattle.netlist.specs.Netlist.{gateAt, pairAt, holdAt, numberAt};
-ghost use Rattle.netlist.specs.Questions.{endsInLamp, formOf};
+ghost use Rattle.netlist.specs.Questions.{formOf};
 
 // Question 11's answer: the count of contacts.
 pub enum Form {
@@ -17,37 +21,39 @@ pub enum Form {
     Unformed,
 }
 
-// Whether no more follows three fields, or tag 6 of one whole pair and then no more.
-fn ends_in_lamp(file: &[u8]) -> bool
-    ensures { λ r. ⌜ r ≡ endsInLamp (fieldsOf (now (file .entry)) .items) ⌝ }
+// Whether the fourth field, if there is one, is tag 6 of one whole pair.
+fn may_be_lamp(file: &[u8], four: bool, fourth: Field) -> bool
+    ensures { λ r. ⌜ r ≡ (not four || hasParts 6 4 1 1 (itemOf (now (file .entry)) fourth)) ⌝ }
 {
-    if files::at_most(file, 3) {
+    if !four {
         return true;
     }
-    if !files::has_parts(file, files::field_at(file, 3), 6, 4, 1, 1) {
-        return false;
-    }
-    files::at_most(file, 4)
+    files::has_parts(file, fourth, 6, 4, 1, 1)
 }
 
 // Question 11: does the file have whole fields of tags 1, 4, 5 in that order, then at most tag 6 and no more, tag 1 as in
 // question 2, tag 4 of 0 to 10,602 whole gates, tag 5 of 1 to 8 whole outputs, tag 6 of one whole pair?
-pub fn ask_form(file: &[u8]) -> Form
+pub fn ask_form(file: &[u8], row: Row) -> Form
+    requires { ⌜ Opens (now file) row ⌝ }
     ensures { λ r. ⌜ r ≡ formOf (fieldsOf (now (file .entry))) ⌝ }
 {
-    let Framing::Whole = fields::whole(file) else {
+    let contacts = row.first;
+    let gates = row.second;
+    let outputs = row.third;
+    let lamp = row.fourth;
+    let Contacts::Counted(n) = files::count_contacts(file, contacts) else {
         return Form::Unformed;
     };
-    let Contacts::Counted(n) = files::count_contacts(file) else {
-        return Form::Unformed;
-    };
-    if !files::has_parts(file, files::field_at(file, 1), 4, 5, 0, 10602) {
+    if !files::has_parts(file, gates, 4, 5, 0, 10602) {
         return Form::Unformed;
     }
-    if !files::has_parts(file, files::field_at(file, 2), 5, 4, 1, 8) {
+    if !files::has_parts(file, outputs, 5, 4, 1, 8) {
         return Form::Unformed;
     }
-    if !ends_in_lamp(file) {
+    if !may_be_lamp(file, row.four, lamp) {
+        return Form::Unformed;
+    }
+    if !row.ends {
         return Form::Unformed;
     }
     Form::Formed(n)

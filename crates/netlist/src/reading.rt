@@ -39,12 +39,13 @@ fn refused(number: u32) -> Parts
 pub fn read(file: &[u8]) -> Parts
     ensures { λ r. ⌜ Read (now (file .entry)) r ⌝ }
 {
-    let Form::Formed(n) = form::ask_form(file) else {
+    let row = files::first_four(file);
+    let gates = row.second;
+    let outputs = row.third;
+    let lamp = row.fourth;
+    let Form::Formed(n) = form::ask_form(file, row) else {
         return refused(11);
     };
-    let gates = files::field_at(file, 1);
-    let outputs = files::field_at(file, 2);
-    let lamp = files::field_at(file, 3);
     let Wiring::Sound = wiring::ask_wiring(
         n,
         fields::value(file, gates),

@@ -70,14 +70,15 @@ pub record SpareLines : Type 0 where
   pub contacts : SpareContacts
   pub unseen : UnreadUnseen
 
--- The gate sheet. It determines the netlist, without its notes, once the count of contacts is given; its length by its rows, and the length that is enough
--- for each.
+-- The gate sheet. It determines the netlist, without its notes, once the count of contacts is given; its length by its rows, and the
+-- length that is enough for each.
 pub record Sheets : Type 0 where
   pub determines : SheetDetermines
   pub length : SheetLength
 
 -- Drawings. The result is an accepted table with the drawing's contacts, outputs and words; drawings of the same functions get one table;
--- 17 is given exactly if a level would have more than eight functions; the drawing of an accepted table gives it back, without its notes.
+-- 17 is given exactly if a level would have more than eight functions; the drawing of an accepted table gives it back, without its
+-- notes.
 pub record Drawings : Type 0 where
   pub table : TableOfDrawing
   pub one : OneTable

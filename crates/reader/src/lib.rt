@@ -34,7 +34,7 @@ impl<'a> Reader<'a> {
         Reader { src: src, at: 0 }
     }
 
-    // The field at the reader, or why there is none.
+    // The next field that is no note, or why there is none.
     pub fn next(self) -> Step
         ensures { λ r. ⌜ r ≡ stepAt (now (self .entry .src)) (self .entry .at) ⌝ }
     {

@@ -37,13 +37,17 @@ fn asked_of_fields(file: &[u8]) -> u32
     let Framing::Whole = fields::whole(file) else {
         return 1;
     };
-    let Contacts::Counted(n) = files::count_contacts(file) else {
+    let first = files::take(file, 0);
+    let contacts = first.field;
+    let Contacts::Counted(n) = files::count_contacts(file, contacts) else {
         return 2;
     };
-    let Outputs::Listed(_) = fit::count_outputs(file) else {
+    let second = files::take(file, first.past);
+    let outputs = second.field;
+    let Outputs::Listed(_) = fit::count_outputs(file, outputs) else {
         return 3;
     };
-    let Levels::Given = fit::ask_levels(file, n) else {
+    let Levels::Given = fit::ask_levels(file, second.past, n) else {
         return 4;
     };
     0

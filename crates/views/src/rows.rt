@@ -1,4 +1,4 @@
-// The fields of a file, a line for each, and then whether the row of fields ends whole.
+// The fields of a file without its notes, a line for each, and then whether the row of fields ends whole.
 use fields::Cursor;
 use fields::Field;
 use fields::Framing;

@@ -6,25 +6,29 @@ use Prim.Native.Nat.{ℕ}
 use mathlib.Core.Path.{_≡_, sym, ap, _∙_}
 use mathlib.Core.List.{List}
 use Rattle.fields.specs.Fields.{Item, fieldsOf, valueIn}
+use Rattle.files.specs.declared.header.Contacts.the-variants.{Counted}
+use Rattle.files.specs.Header.{contactsIn}
+use Rattle.files.proofs.Counts.{contacts-first}
 use Rattle.files.proofs.WholeParts.{parted}
-use Rattle.drawing.proofs.Forms.{broken, uncounted, first-misparted, second-misparted, too-many, unsound, formed, parts-are}
+use Rattle.drawing.proofs.Forms.{uncounted, first-misparted, second-misparted, too-many, unended, unsound, formed, parts-are}
 use Rattle.drawing.proofs.form.ask_form.Statement.{statement}
 use Rattle.drawing.proofs.form.ask_form.Tie as tie
 
-abbrev file : tie.After-value2 → List ℕ
-file v = v .before .before .before .before .before .before .before .before .before .before .before .before .before .before .before .before .before .before .args .file .now
+-- Once question 2 has its yes: its answer.
+abbrev file : tie.After-known-told → List ℕ
+file k = k .before .before .before .before .before .before .before .before .args .file .now
 
-whole-requires : tie.Need-whole-requires
-whole-requires c κs = search needs
+counted : (k : tie.After-known-told) → contactsIn (fieldsOf (file k) .items) ≡ Counted (k .before .n .given .0 .0)
+counted k =
+    sym (contacts-first _ (k .before .before .before .count-contacts .ensures) (k .before .before .before .before .before .before .before .before .pre .first))
+    ∙ k .before .n .given .1
 
-enum-told : tie.Need-enum-told
-enum-told c = search needs
+-- The values of the two fields are what was asked of the drawing.
+outputs-are : (v : tie.After-value2) → v .before .value .result .now ≡ valueIn (fieldsOf (file (v .before .before .before .before .before .before .before .before .before)) .items) 1
+outputs-are v = v .before .value .ensures ∙ ap (λ (i : Item). i .value) (v .before .before .before .before .before .before .before .before .before .before .before .before .before .before .before .before .before .pre .second)
 
-enum-told-2 : tie.Need-enum-told-2
-enum-told-2 c = search needs
-
-returns : tie.Need-returns
-returns c = broken _ (sym (c .before .before .whole .ensures) ∙ c .enum-told2 .given .1)
+nodes-are : (v : tie.After-value2) → v .value2 .result .now ≡ valueIn (fieldsOf (file (v .before .before .before .before .before .before .before .before .before)) .items) 2
+nodes-are v = v .value2 .ensures ∙ ap (λ (i : Item). i .value) (v .before .before .before .before .before .before .before .before .before .before .before .before .before .before .before .before .before .pre .third)
 
 count-contacts-requires : tie.Need-count-contacts-requires
 count-contacts-requires c κs = search needs
@@ -32,37 +36,39 @@ count-contacts-requires c κs = search needs
 enum-known-n : tie.Need-enum-known-n
 enum-known-n c = search needs
 
-enum-told-3 : tie.Need-enum-told-3
-enum-told-3 c = search needs
+enum-told : tie.Need-enum-told
+enum-told c = search needs
 
-returns-2 : tie.Need-returns-2
-returns-2 c = uncounted _ (sym (c .before .before .count-contacts .ensures) ∙ c .enum-told3 .given .1)
-
-field-at-requires : tie.Need-field-at-requires
-field-at-requires c κs = search needs
+returns : tie.Need-returns
+returns c =
+    let count = c .before .before in
+    uncounted _ (sym (contacts-first _ (count .count-contacts .ensures) (count .before .before .before .before .before .pre .first)) ∙ c .enum-told .given .1)
 
 has-parts-requires : tie.Need-has-parts-requires
 has-parts-requires c κs = search needs
 
-returns-3 : tie.Need-returns-3
-returns-3 c =
-    first-misparted _ (parted 2 1 1 8 (c .before .has-parts .ensures) (omega arith) (c .before .before .field-at .ensures) ∙ not-true _ (c .if1 .taken))
-
-field-at-requires-2 : tie.Need-field-at-requires-2
-field-at-requires-2 c κs = search needs
+returns-2 : tie.Need-returns-2
+returns-2 c =
+    let row = c .before .before .before .before .before .before .before .before .before .before .pre in
+    first-misparted _ (parted 2 1 1 8 (c .before .has-parts .ensures) (omega arith) (row .second) ∙ not-true _ (c .if1 .taken))
 
 has-parts-requires-2 : tie.Need-has-parts-requires-2
 has-parts-requires-2 c κs = search needs
 
+returns-3 : tie.Need-returns-3
+returns-3 c =
+    let row = c .before .before .before .before .before .before .before .before .before .before .before .before .pre in
+    second-misparted _ (parted 7 3 0 200 (c .before .has-parts2 .ensures) (omega arith) (row .third) ∙ not-true _ (c .if2 .taken))
+
 returns-4 : tie.Need-returns-4
 returns-4 c =
-    second-misparted _ (parted 7 3 0 200 (c .before .has-parts2 .ensures) (omega arith) (c .before .before .field-at2 .ensures) ∙ not-true _ (c .if2 .taken))
-
-at-most-requires : tie.Need-at-most-requires
-at-most-requires c κs = search needs
+    let row = c .before .before .before .before .before .before .before .before .before .before .before .before .before .pre in
+    too-many _ (sym (row .four) ∙ c .if3 .taken)
 
 returns-5 : tie.Need-returns-5
-returns-5 c = too-many _ (sym (c .before .at-most .ensures) ∙ not-true _ (c .if3 .taken))
+returns-5 c =
+    let row = c .before .before .before .before .before .before .before .before .before .before .before .before .before .before .before .pre in
+    unended _ (sym (row .ends) ∙ not-true _ (c .if4 .taken))
 
 value-requires : tie.Need-value-requires
 value-requires c κs = search needs
@@ -73,56 +79,40 @@ value-requires-2 c κs = search needs
 is-sound-requires : tie.Need-is-sound-requires
 is-sound-requires c κs = search needs
 
--- The values of the two fields are what was asked of the drawing.
-outputs-are : (v : tie.After-value2) → v .before .value .result .now ≡ valueIn (fieldsOf (file v) .items) 1
-outputs-are v =
-    v .before .value .ensures ∙ ap (λ (i : Item). i .value) (v .before .before .before .before .before .before .before .before .before .field-at .ensures)
-
-nodes-are : (v : tie.After-value2) → v .value2 .result .now ≡ valueIn (fieldsOf (file v) .items) 2
-nodes-are v = v .value2 .ensures ∙ ap (λ (i : Item). i .value) (v .before .before .before .before .before .before .field-at2 .ensures)
-
 returns-6 : tie.Need-returns-6
 returns-6 c =
     let v = c .before .before in
-    let count = v .before .before .before .before .before .before .before .before .before .before .before in
-    unsound _
-    (parts-are _ (sym (count .before .before .count-contacts .ensures) ∙ count .n .given .1) (outputs-are v) (nodes-are v)
-    (c .before .is-sound .ensures) ∙ not-true _ (c .if4 .taken))
+    unsound _ (parts-are _ (counted (v .before .before .before .before .before .before .before .before .before)) (outputs-are v) (nodes-are v) (c .before .is-sound .ensures) ∙ not-true _ (c .if5 .taken))
 
 returns-7 : tie.Need-returns-7
 returns-7 c =
     let v = c .before .before in
-    let ended = v .before .before in
-    let nodes = ended .before .before in
-    let outputs = nodes .before .before .before in
-    let count = outputs .before .before .before .before in
-    let whole = count .before .before .before in
-    let counted = sym (count .before .before .count-contacts .ensures) ∙ count .n .given .1 in
-    formed _ (sym (whole .before .before .whole .ensures) ∙ whole .enum-told .given .1) counted
-    (parted 2 1 1 8 (outputs .before .has-parts .ensures) (omega arith) (outputs .before .before .field-at .ensures) ∙ not-false _ (outputs .if1 .left))
-    (parted 7 3 0 200 (nodes .before .has-parts2 .ensures) (omega arith) (nodes .before .before .field-at2 .ensures) ∙ not-false _ (nodes .if2 .left))
-    (sym (ended .before .at-most .ensures) ∙ not-false _ (ended .if3 .left))
-    (parts-are _ counted (outputs-are v) (nodes-are v) (c .before .is-sound .ensures) ∙ not-false _ (c .if4 .left))
+    let ends = v .before .before in
+    let three = ends .before .before in
+    let nodes = three .before in
+    let outputs = nodes .before .before in
+    let k = outputs .before .before in
+    let row = k .before .before .before .before .before .before .before .before .pre in
+    formed _ (counted k)
+    (parted 2 1 1 8 (outputs .before .has-parts .ensures) (omega arith) (row .second) ∙ not-false _ (outputs .if1 .left))
+    (parted 7 3 0 200 (nodes .before .has-parts2 .ensures) (omega arith) (row .third) ∙ not-false _ (nodes .if2 .left))
+    (sym (row .four) ∙ three .if3 .left)
+    (sym (row .ends) ∙ not-false _ (ends .if4 .left))
+    (parts-are _ (counted k) (outputs-are v) (nodes-are v) (c .before .is-sound .ensures) ∙ not-false _ (c .if5 .left))
 
 pub ask-form-spec : {M : Type 1} → statement M
 ask-form-spec =
     tie.close
     (tie.spec
-    whole-requires
-    enum-told
-    enum-told-2
-    returns
     count-contacts-requires
     enum-known-n
-    enum-told-3
-    returns-2
-    field-at-requires
+    enum-told
+    returns
     has-parts-requires
-    returns-3
-    field-at-requires-2
+    returns-2
     has-parts-requires-2
+    returns-3
     returns-4
-    at-most-requires
     returns-5
     value-requires
     value-requires-2

@@ -1,18 +1,25 @@
 -- `service::from_drawing` meets its contract: refused by question 16, or what writing the table of its truth tables' functions gives.
 use borrow.Author.Needs.{needs}
-use mathlib.Core.Path.{sym, _∙_}
+use mathlib.Core.Path.{sym, ap, _∙_}
+use Rattle.fields.specs.Fields.{Item}
 use Rattle.drawing.proofs.Asked.{Opened, opened}
 use Rattle.drawing.proofs.Outcomes.{malformed, tabled}
 use Rattle.drawing.proofs.service.from_drawing.Statement.{statement}
 use Rattle.drawing.proofs.service.from_drawing.Tie as tie
 
-open! : (c : tie.After-nth2) →
-    let file = c .before .before .before .before .before .before .before .before in
+open! : (c : tie.After-value2) →
+    let file = c .before .before .before .before .before .before .before .before .before .before .before in
     Opened (file .args .drawing .now)
-    (record { contacts = c .before .before .before .n .given .0 .0; outputs = c .before .nth .result .now; nodes = c .nth2 .result .now })
+    (record { contacts = c .before .before .before .n .given .0 .0; outputs = c .before .value .result .now; nodes = c .value2 .result .now })
 open! c =
     let told = c .before .before .before in
-    opened _ (sym (told .before .before .ask-form .ensures) ∙ told .n .given .1) (c .before .nth .ensures) (c .nth2 .ensures)
+    let row = told .before .before .before .before .before .first-four .ensures in
+    opened _ (sym (told .before .before .ask-form .ensures) ∙ told .n .given .1)
+    (c .before .value .ensures ∙ ap (λ (i : Item). i .value) (row .second))
+    (c .value2 .ensures ∙ ap (λ (i : Item). i .value) (row .third))
+
+first-four-requires : tie.Need-first-four-requires
+first-four-requires c κs = search needs
 
 ask-form-requires : tie.Need-ask-form-requires
 ask-form-requires c κs = search needs
@@ -29,11 +36,11 @@ refused-requires c κs = search needs
 returns : tie.Need-returns
 returns c = malformed _ _ (sym (c .before .before .before .ask-form .ensures) ∙ c .before .enum-told .given .1) (c .refused .ensures)
 
-nth-requires : tie.Need-nth-requires
-nth-requires c κs = search needs
+value-requires : tie.Need-value-requires
+value-requires c κs = search needs
 
-nth-requires-2 : tie.Need-nth-requires-2
-nth-requires-2 c κs = search needs
+value-requires-2 : tie.Need-value-requires-2
+value-requires-2 c κs = search needs
 
 write-table-requires : tie.Need-write-table-requires
 write-table-requires c κs = open! (c .before) .limited-parts
@@ -50,13 +57,14 @@ pub from-drawing-spec : {M : Type 1} → statement M
 from-drawing-spec =
     tie.close
     (tie.spec
+    first-four-requires
     ask-form-requires
     enum-known-n
     enum-told
     refused-requires
     returns
-    nth-requires
-    nth-requires-2
+    value-requires
+    value-requires-2
     write-table-requires
     same-length
     returns-2)

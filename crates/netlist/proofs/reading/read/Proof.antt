@@ -1,8 +1,8 @@
 -- `reading::read` meets its contract: each answer is the case that the answers before it lead to.
 use borrow.Author.Needs.{needs}
 use mathlib.Core.Path.{_≡_, refl, sym, ap, _∙_}
-use Prim.Native.Nat.{ℕ}
 use mathlib.Core.List.{List}
+use Prim.Native.Nat.{ℕ}
 use Rattle.fields.specs.Fields.{Item, fieldsOf, valueIn}
 use Rattle.netlist.specs.declared.form.Form.the-variants.{Formed}
 use Rattle.netlist.specs.Questions.{formOf}
@@ -12,15 +12,16 @@ use Rattle.netlist.proofs.reading.read.Statement.{statement}
 use Rattle.netlist.proofs.reading.read.Tie as tie
 
 abbrev file : tie.After-value3 → List ℕ
-file c = c .before .before .before .before .before .before .before .before .before .before .before .args .file .now
+file c = c .before .before .before .before .before .before .before .before .before .before .before .before .args .file .now
 
 -- Once question 11 has its yes.
-form : (c : tie.After-value3) →
-    formOf (fieldsOf (file c))
-    ≡ Formed (c .before .before .before .before .before .before .before .n .given .0 .0)
+form : (c : tie.After-value3) → formOf (fieldsOf (file c)) ≡ Formed (c .before .before .before .before .n .given .0 .0)
 form c =
-    let known = c .before .before .before .before .before .before .before in
+    let known = c .before .before .before .before in
     sym (known .before .before .ask-form .ensures) ∙ known .n .given .1
+
+first-four-requires : tie.Need-first-four-requires
+first-four-requires c κs = search needs
 
 ask-form-requires : tie.Need-ask-form-requires
 ask-form-requires c κs = search needs
@@ -36,15 +37,6 @@ refused-requires c κs = search needs
 
 returns : tie.Need-returns
 returns c = unformed _ (sym (c .before .before .before .ask-form .ensures) ∙ c .before .enum-told .given .1) (c .refused .ensures)
-
-field-at-requires : tie.Need-field-at-requires
-field-at-requires c κs = search needs
-
-field-at-requires-2 : tie.Need-field-at-requires-2
-field-at-requires-2 c κs = search needs
-
-field-at-requires-3 : tie.Need-field-at-requires-3
-field-at-requires-3 c κs = search needs
 
 value-requires : tie.Need-value-requires
 value-requires c κs = search needs
@@ -69,13 +61,19 @@ refused-requires-2 c κs = search needs
 
 -- The parts' values are those of the fields at their places.
 gates : (c : tie.After-value3) → c .before .before .value .result .now ≡ valueIn (fieldsOf (file c) .items) 1
-gates c = c .before .before .value .ensures ∙ ap (λ (i : Item). i .value) (c .before .before .before .before .before .field-at .ensures)
+gates c =
+    c .before .before .value .ensures
+    ∙ ap (λ (i : Item). i .value) (c .before .before .before .before .before .before .before .before .before .before .first-four .ensures .second)
 
 outputs : (c : tie.After-value3) → c .before .value2 .result .now ≡ valueIn (fieldsOf (file c) .items) 2
-outputs c = c .before .value2 .ensures ∙ ap (λ (i : Item). i .value) (c .before .before .before .before .field-at2 .ensures)
+outputs c =
+    c .before .value2 .ensures
+    ∙ ap (λ (i : Item). i .value) (c .before .before .before .before .before .before .before .before .before .before .first-four .ensures .third)
 
 lamp : (c : tie.After-value3) → c .value3 .result .now ≡ valueIn (fieldsOf (file c) .items) 3
-lamp c = c .value3 .ensures ∙ ap (λ (i : Item). i .value) (c .before .before .before .field-at3 .ensures)
+lamp c =
+    c .value3 .ensures
+    ∙ ap (λ (i : Item). i .value) (c .before .before .before .before .before .before .before .before .before .before .first-four .ensures .fourth)
 
 returns-2 : tie.Need-returns-2
 returns-2 c =
@@ -94,14 +92,12 @@ pub read-spec : {M : Type 1} → statement M
 read-spec =
     tie.close
     (tie.spec
+    first-four-requires
     ask-form-requires
     enum-known-n
     enum-told
     refused-requires
     returns
-    field-at-requires
-    field-at-requires-2
-    field-at-requires-3
     value-requires
     value-requires-2
     value-requires-3

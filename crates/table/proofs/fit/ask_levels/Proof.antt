@@ -3,31 +3,22 @@ use borrow.Author.Needs.{needs}
 use borrow.Author.Tests.{not-true, not-false}
 use native.Mathlib.Omega.{arith}
 use Prim.Native.Nat.{_-_, _≤_}
-use mathlib.Core.Path.{sym, _∙_}
-use lib.ListN.{drop}
-use Rattle.fields.specs.Fields.{fieldsFrom, fieldsOf}
+use mathlib.Core.Path.{refl, sym, _∙_}
+use Rattle.fields.specs.Fields.{fieldsFrom}
 use Rattle.fields.proofs.Steps.{items-next, ended}
-use Rattle.table.proofs.Fits.{skipped, PassedLevels, passed-none, passed-one, not-level, too-few, enough, too-many}
+use Rattle.table.proofs.Fits.{PassedLevels, passed-none, passed-one, not-level, too-few, enough, too-many}
 use Rattle.table.proofs.fit.ask_levels.Statement.{statement}
 use Rattle.table.proofs.fit.ask_levels.Tie as tie
 
 abbrev Inv-loop : tie.InvT-loop
-Inv-loop file n cursor₀ counter₀ cursor counter =
-    (counter ≤ n) × PassedLevels n (drop 2 (fieldsOf file .items)) counter (fieldsFrom file (cursor .at) .items)
+Inv-loop file at n cursor₀ counter₀ cursor counter =
+    (counter ≤ n) × PassedLevels n (fieldsFrom file at .items) counter (fieldsFrom file (cursor .at) .items)
 
 abbrev μ-loop : tie.MeasureT-loop
-μ-loop file n cursor₀ counter₀ cursor counter = n - counter
-
-new-requires : tie.Need-new-requires Inv-loop μ-loop
-new-requires c κs = search needs
-
-skip-requires : tie.Need-skip-requires Inv-loop μ-loop
-skip-requires c κs = search needs
+μ-loop file at n cursor₀ counter₀ cursor counter = n - counter
 
 loop-holds : tie.Need-loop-holds Inv-loop μ-loop
-loop-holds c =
-    let a = c .before .before .before .args in
-    (omega arith, passed-none (a .n) _ (skipped _ 2 (c .before .new .ensures) (c .skip .ensures)))
+loop-holds c = (omega arith, passed-none (c .before .args .n) _ refl)
 
 next-requires : tie.Need-next-requires Inv-loop μ-loop
 next-requires c κs = search needs
@@ -95,8 +86,6 @@ ask-levels-spec =
     (tie.spec
     Inv-loop
     μ-loop
-    new-requires
-    skip-requires
     loop-holds
     next-requires
     enum-known-field
