@@ -32,7 +32,7 @@ module _ (P : Item → Type 0) where
   fields-have file = but-notes (rawFieldsFrom file 0 .items)
 
 -- Where there are no notes, all fields stay.
-pub no-notes : (is : List Item) → Every Plain is → butNotes is ≡ is
+no-notes : (is : List Item) → Every Plain is → butNotes is ≡ is
 unfolding butNotes
 no-notes [] h = refl
 no-notes (i ∷ is) h =
