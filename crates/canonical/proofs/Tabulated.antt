@@ -10,12 +10,11 @@ use mathlib.Core.List.{List}
 use borrow.Author.Tests.{eq-eqb, ne-eqb}
 use lib.Arith.{digits-div, digits-mod}
 use lib.Dec.{eqb}
-use lib.ListN.{getD}
 use lib.Pow.{pow-pos, shr-shr}
 use Rattle.diagram.specs.Diagram.{Input, inputOf}
-use Rattle.functions.specs.Functions.{constant, choice, withContact, tree, functionsOf}
+use Rattle.functions.specs.Functions.{constant, choice, withContact, tree}
 use Rattle.functions.proofs.Trees.{Values}
-use Rattle.canonical.specs.Inner.Blocks.{bitIn, blockAt, mentionAt, inputAt}
+use Rattle.canonical.specs.Inner.Blocks.{bitIn, blockAt, inputAt}
 
 -- The bits of a place that is a multiple of 2^(k+1), and of the place 2^k further on: bit k is 0 or 1, those above it are the same.
 module _ (q k : ℕ) (whole : q % 2 ^ suc k ≡ 0) where
@@ -101,9 +100,3 @@ module _ (n : ℕ) (ws : List ℕ) (s : ℕ) (v : Input → ℕ) (values : Value
       let whole : 0 % 2 ^ n ≡ 0 = zero-mod (2 ^ n) in
       let e : s ≡ s + 0 = omega arith in
       ap (blockAt ws n) e ∙ block-tree n 0 0 (λ _. false) (omega arith) whole (omega arith) (λ i h. absurd (omega arith))
-
--- The truth tables of some outputs, each from a place on.
-pub outputs-are : (n m : ℕ) (ws starts : List ℕ) (v : ℕ → Input → ℕ) → ((j : ℕ) → j < m → Values n (v j)) →
-    ((j q : ℕ) → j < m → q < 2 ^ n → bitIn ws (getD starts j 0 + q) ≡ v j (inputAt n q)) →
-    (j : ℕ) → j < m → mentionAt ws n starts j ≡ functionsOf n v j
-outputs-are n m ws starts v values tabulated j h = block-is n ws (getD starts j 0) (v j) (values j h) (λ q g. tabulated j q h g)

@@ -3,8 +3,9 @@ use crate::paths;
 ghost use mathlib.Core.Path.{_≡_};
 ghost use Prim.Native.Nat.{_+_, _*_, _-_, _^_, _≤_, _<_};
 ghost use lib.ListN.{length};
-ghost use Rattle.drawing.specs.Drawing.{nodeCount};
-ghost use Rattle.drawing.specs.Inner.Words.{Ready, WordsFrom, From, Filled, Repeated, Block, Numbers, Tabulated};
+ghost use Rattle.rows.specs.Inner.Rows.{Tabulated};
+ghost use Rattle.drawing.specs.Drawing.{nodeCount, drawnAt};
+ghost use Rattle.drawing.specs.Inner.Words.{Ready, WordsFrom, From, Filled, Repeated, Block, Numbers};
 
 // Writes a word to every place from one up to another.
 fn fill(truths: &mut [u64], from: usize, to: usize, word: u64)
@@ -53,7 +54,7 @@ fn put_block(
     repeat(truths, to, 2usize << half, 1usize << left);
 }
 
-// The truth tables of the outputs, one after the other, and where each begins.
+// The truth tables of the outputs, one after the other.
 pub fn put_outputs(
     nodes: &[u8],
     n: usize,
@@ -61,17 +62,15 @@ pub fn put_outputs(
     outputs: &[u8],
     values: &[u64],
     truths: &mut [u64],
-    starts: &mut [usize],
 )
     requires { ⌜ Ready n (now nodes) × (2 + nodeCount (now nodes) ≤ length (now values)) × WordsFrom n (now nodes) (now values) (n - 6)
         × (fixed ≡ n - 6) × (length (now outputs) ≤ 8) × Numbers (now outputs) (now nodes)
-        × (length (now outputs) * 2 ^ (n - 6) ≤ length (now truths)) × (length (now truths) ≤ 512) × (length (now starts) ≡ 8) ⌝ }
-    ensures { λ _. ⌜ Tabulated n (length (now (outputs .entry))) (now (outputs .entry)) (now (nodes .entry)) (now (truths .exit))
-        (now (starts .exit)) ⌝ }
+        × (length (now outputs) * 2 ^ (n - 6) ≤ length (now truths)) × (length (now truths) ≤ 512) ⌝ }
+    ensures { λ _. ⌜ Tabulated n (length (now (outputs .entry)))
+        (drawnAt (record { contacts = n; outputs = now (outputs .entry); nodes = now (nodes .entry) })) (now (truths .exit)) ⌝ }
 {
     for j in 0..outputs.len() {
         let to = j << fixed;
         put_block(nodes, n, outputs[j] as usize, fixed, values, truths, to);
-        starts[j] = 64 * to;
     }
 }

@@ -8,13 +8,6 @@ ghost use lib.ListN.{length};
 ghost use Rattle.drawing.specs.Drawing.{nodeCount};
 ghost use Rattle.drawing.specs.Inner.Words.{Limited, drawnTabling};
 
-// How many contacts are fixed within a word of a truth table: all but the last six.
-fn fixed_contacts(n: usize) -> usize
-    ensures { λ r. ⌜ r ≡ n - 6 ⌝ }
-{
-    if n < 6 { 0 } else { n - 6 }
-}
-
 // Writes the table of the outputs' functions, given room for a word of each number and for the outputs' truth tables.
 fn write_by(
     n: usize,
@@ -32,9 +25,8 @@ fn write_by(
         ≡ drawnTabling (record { contacts = n; outputs = now (outputs .entry); nodes = now (nodes .entry) }) (now (table .entry)) ⌝ }
 {
     numbers::put_words(nodes, n, fixed, values);
-    let mut starts = [0usize; 8];
-    truths::put_outputs(nodes, n, fixed, outputs, values, truths, &mut starts);
-    canonical::write(truths, n, &starts, outputs.len(), table)
+    truths::put_outputs(nodes, n, fixed, outputs, values, truths);
+    rows::write(truths, n, outputs.len(), table)
 }
 
 // The same, with room for the words of 14 nodes or of 200: the buffer is cleared, so a small drawing has the shorter one.
@@ -65,7 +57,7 @@ pub fn write_table(n: usize, outputs: &[u8], nodes: &[u8], table: &mut [u8]) -> 
     ensures { λ r. ⌜ record { refusal = r .refusal; length = r .length; buffer = now (table .exit) }
         ≡ drawnTabling (record { contacts = n; outputs = now (outputs .entry); nodes = now (nodes .entry) }) (now (table .entry)) ⌝ }
 {
-    let fixed = fixed_contacts(n);
+    let fixed = rows::fixed_contacts(n);
     let most = outputs.len() << fixed;
     if most <= 8 {
         let mut truths = [0u64; 8];

@@ -11,6 +11,7 @@ use Rattle.bits.specs.Inner.Bits.{bitOf}
 use Rattle.files.specs.Room.{Writing}
 use Rattle.canonical.specs.Inner.Blocks.{inputAt}
 use Rattle.canonical.specs.Service.{tablingOf}
+use Rattle.rows.specs.Inner.Rows.{Word}
 use Rattle.drawing.specs.Drawing.{Drawing, nodeCount, levelIn, isNode, isDrawing, lead}
 use Rattle.drawing.specs.Service.{functionsIn}
 
@@ -32,8 +33,8 @@ pub record Ready (n : ℕ) (nodes : List ℕ) : Type 0 where
   pub sound : all (nodeCount nodes) (isNode n nodes) ≡ true
 
 -- A number's values in word w of its truth table.
-pub record Holds (n : ℕ) (nodes : List ℕ) (v w word : ℕ) : Type 0 where
-  pub bits : (k : ℕ) → k < 64 → bitOf k word ≡ lead nodes (inputAt n (64 * w + k)) n v
+abbrev pub Holds : ℕ → List ℕ → ℕ → ℕ → ℕ → Type 0
+Holds n nodes v w word = Word n (λ x. lead nodes x n v) w word
 
 -- The same in every word: the number is a constant, or a node of the last six levels.
 abbrev pub WordIs : ℕ → List ℕ → List ℕ → ℕ → Type 0
@@ -91,8 +92,3 @@ pub record Block (n left : ℕ) (nodes : List ℕ) (v to : ℕ) (before after : 
 -- Outputs that are constants or listed nodes.
 pub record Numbers (outputs nodes : List ℕ) : Type 0 where
   pub number : (j : ℕ) → j < length outputs → getD outputs j 0 < 2 + nodeCount nodes
-
--- The truth tables of the first outputs, so many, one after the other, and where each begins.
-pub record Tabulated (n count : ℕ) (outputs nodes truths starts : List ℕ) : Type 0 where
-  pub held : (j w : ℕ) → j < count → w < 2 ^ (n - 6) → Holds n nodes (getD outputs j 0) w (getD truths (j * 2 ^ (n - 6) + w) 0)
-  pub begins : (j : ℕ) → j < count → getD starts j 0 ≡ 64 * (j * 2 ^ (n - 6))

@@ -3,36 +3,38 @@ use borrow.Author.Needs.{needs}
 use native.Mathlib.Omega.{arith}
 use Prim.Native.Nat.{_*_, _-_, _%_, _^_, _≤_, _<_}
 use mathlib.Core.Path.{_≡_, refl, ap, _∙_}
-use lib.ListN.{length, length-set}
-use Rattle.drawing.specs.Inner.Words.{Tabulated}
+use lib.ListN.{length}
+use Rattle.rows.specs.Inner.Rows.{Tabulated}
+use Rattle.rows.proofs.Rows.{row-place, row-room, no-rows}
+use Rattle.drawing.specs.Drawing.{Drawing, drawnAt}
 use Rattle.drawing.proofs.Reaching.{from-start}
-use Rattle.drawing.proofs.Outputs.{none-put, one-put, row-place, row-room}
+use Rattle.drawing.proofs.Outputs.{one-put}
 use Rattle.drawing.proofs.truths.put_outputs.Statement.{statement}
 use Rattle.drawing.proofs.truths.put_outputs.Tie as tie
 
 abbrev Inv-loop : tie.InvT-loop
-Inv-loop nodes n fixed outputs values truths₀ starts₀ j₀ j-end truths starts j =
-    (j-end ≡ length outputs) × (j ≤ j-end) × (length truths ≡ length truths₀) × (length starts ≡ length starts₀)
-    × Tabulated n j outputs nodes truths starts
+Inv-loop nodes n fixed outputs values truths₀ j₀ j-end truths j =
+    (j-end ≡ length outputs) × (j ≤ j-end) × (length truths ≡ length truths₀)
+    × Tabulated n j (drawnAt (record { contacts = n; outputs = outputs; nodes = nodes })) truths
 
 abbrev μ-loop : tie.MeasureT-loop
-μ-loop nodes n fixed outputs values truths₀ starts₀ j₀ j-end truths starts j = j-end - j
+μ-loop nodes n fixed outputs values truths₀ j₀ j-end truths j = j-end - j
 
-listed : (c : tie.In-loop Inv-loop μ-loop) → c .before .loop .j < length (c .before .before .before .before .before .before .before .args .outputs .now)
+listed : (c : tie.In-loop Inv-loop μ-loop) → c .before .loop .j < length (c .before .before .before .before .before .before .args .outputs .now)
 listed c = omega (arith, c .before .loop .inv .0, c .loop-test .taken)
 
 few : (c : tie.In-loop Inv-loop μ-loop) → c .before .loop .j < 8
-few c = omega (arith, listed c, c .before .before .before .before .before .before .before .pre .4)
+few c = omega (arith, listed c, c .before .before .before .before .before .before .pre .4)
 
 -- Where the output's truth table begins.
-placed : (c : tie.In-loop Inv-loop μ-loop) → let a = c .before .before .before .before .before .before .before .args in let j = c .before .loop .j in
+placed : (c : tie.In-loop Inv-loop μ-loop) → let a = c .before .before .before .before .before .before .args in let j = c .before .loop .j in
     (j * 2 ^ a .fixed % 2 ^ 64 ≡ j * 2 ^ (a .n - 6)) × (j * 2 ^ (a .n - 6) ≤ 512)
 placed c =
-    let start = c .before .before .before .before .before .before .before in
+    let start = c .before .before .before .before .before .before in
     row-place (start .args .n) (start .args .fixed) (c .before .loop .j) (start .pre .0 .contacts .1) (start .pre .3) (omega (arith, few c))
 
 loop-holds : tie.Need-loop-holds Inv-loop μ-loop
-loop-holds c = (refl, omega arith, refl, refl, none-put _ _ _ _ _)
+loop-holds c = (refl, omega arith, refl, no-rows _ _ _)
 
 shl-to : tie.Need-shl-to Inv-loop μ-loop
 shl-to c = search needs
@@ -47,7 +49,7 @@ put-block-requires : tie.Need-put-block-requires Inv-loop μ-loop
 put-block-requires c κs =
     let turn = c .before .before in
     let loop = turn .before .loop in
-    let pre = c .before .before .before .before .before .before .before .before .before .pre in
+    let pre = c .before .before .before .before .before .before .before .before .pre in
     let size = ap (_^_ 2) (pre .3) in (
       pre .0,
       pre .1,
@@ -57,17 +59,6 @@ put-block-requires c κs =
       omega (arith, placed turn .0, size, loop .inv .2, row-room _ (loop .j) _ _ (listed turn) (pre .6)),
       omega (arith, loop .inv .2, pre .7),
     )
-
-mul-starts : tie.Need-mul-starts Inv-loop μ-loop
-mul-starts c = omega (arith, placed (c .before .before .before .before .before) .1, placed (c .before .before .before .before .before) .0)
-
-mul-starts-2 : tie.Need-mul-starts-2 Inv-loop μ-loop
-mul-starts-2 c = omega (arith, few (c .before .before .before .before .before))
-
-slice-write-starts : tie.Need-slice-write-starts Inv-loop μ-loop
-slice-write-starts c =
-    let turn = c .before .before .before .before .before in
-    omega (arith, few turn, turn .before .loop .inv .3, c .before .before .before .before .before .before .before .before .before .before .before .before .pre .8)
 
 add-j : tie.Need-add-j Inv-loop μ-loop
 add-j c = search needs
@@ -80,26 +71,23 @@ loop-again c =
     let turn = c .before .before .before .before .before in
     let loop = turn .before .loop in
     let put = c .before .before .put-block in
-    let pre = c .before .before .before .before .before .before .before .before .before .before .before .before .pre in (
+    let start = c .before .before .before .before .before .before .before .before .before .before .before in
+    let a = start .args in
+    let d : Drawing = record { contacts = a .n; outputs = a .outputs .now; nodes = a .nodes .now } in (
       loop .inv .0,
       omega arith,
       put .kept .1 .1 .1 .1 .1 .0 ∙ loop .inv .2,
-      simp length-set (loop .inv .3),
-      one-put _ (loop .j) _ _ (loop .truths) _ (loop .starts) _ _ _ (pre .3) (placed turn .0) refl (omega (arith, few turn, loop .inv .3, pre .8))
-          (put .ensures) (loop .inv .4),
+      one-put d (loop .j) (loop .truths) _ _ _ (start .pre .3) (placed turn .0) (put .ensures) (loop .inv .3),
     )
 
 same-length : tie.Need-same-length Inv-loop μ-loop
 same-length c = c .before .loop .inv .2
 
-same-length-2 : tie.Need-same-length-2 Inv-loop μ-loop
-same-length-2 c = c .before .loop .inv .3
-
 returns : tie.Need-returns Inv-loop μ-loop
 returns c =
     let loop = c .before .loop in
-    let end : loop .j ≡ length (c .before .before .before .before .before .before .before .args .outputs .now) = omega (arith, loop .inv .0, loop .inv .1, c .loop-test .left) in
-    rw (← end) (loop .inv .4)
+    let end : loop .j ≡ length (c .before .before .before .before .before .before .args .outputs .now) = omega (arith, loop .inv .0, loop .inv .1, c .loop-test .left) in
+    rw (← end) (loop .inv .3)
 
 pub put-outputs-spec : {M : Type 1} → statement M
 put-outputs-spec =
@@ -112,12 +100,8 @@ put-outputs-spec =
     shared-slice-read-put-block
     cast-put-block
     put-block-requires
-    mul-starts
-    mul-starts-2
-    slice-write-starts
     add-j
     loop-less
     loop-again
     same-length
-    same-length-2
     returns)

@@ -4,7 +4,7 @@ use native.Mathlib.Omega.{arith}
 use Prim.Native.Nat.{_-_, _*_, _%_, _^_, _≤_}
 use mathlib.Core.Path.{_≡_}
 use lib.ListN.{length}
-use Rattle.drawing.proofs.Outputs.{row-place}
+use Rattle.rows.proofs.Rows.{row-place}
 use Rattle.drawing.proofs.writing.write_table.Statement.{statement}
 use Rattle.drawing.proofs.writing.write_table.Tie as tie
 
