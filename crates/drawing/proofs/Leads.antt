@@ -10,8 +10,7 @@ use lib.ListN.{length, getD}
 use Rattle.fields.specs.Bounded.{all}
 use Rattle.fields.proofs.Bounded.{all-at, and-left, and-right}
 use Rattle.diagram.specs.Diagram.{Input}
-use Rattle.functions.proofs.Trees.{Values}
-use Rattle.drawing.specs.Drawing.{Drawing, nodeCount, levelIn, edgeIn, isNumber, isAbove, isNode, isDrawing, next, lead, drawnAt}
+use Rattle.drawing.specs.Drawing.{Drawing, nodeCount, levelIn, edgeIn, isNumber, isAbove, isNode, isDrawing, next, lead}
 
 -- A constant stays where it is.
 pub stays : (nodes : List ℕ) (x : Input) (s v : ℕ) → v < 2 → lead nodes x s v ≡ v
@@ -123,11 +122,3 @@ module _ (d : Drawing) (formed : isDrawing d ≡ true) where
   output-number j h =
       all-at (λ j. isNumber (d .nodes) (getD (d .outputs) j 0)) _
       (and-right (all (nodeCount (d .nodes)) (isNode (d .contacts) (d .nodes))) _ formed) j h
-
-  -- Each output is a function of the contacts.
-  pub drawn-values : 1 ≤ d .contacts → (j : ℕ) → j < length (d .outputs) → Values (d .contacts) (drawnAt d j)
-  drawn-values h j g =
-      record {
-        first = λ x y same. lead-same (d .contacts) (d .nodes) nodes-sound x y same (d .contacts) _ (output-number j g);
-        bit = λ x. lead-bit (d .contacts) (d .nodes) nodes-sound x _ h (output-number j g);
-      }

@@ -1,4 +1,1 @@
 pub mod Drawing
-pub mod Service
-pub mod Promises
-pub mod Inner

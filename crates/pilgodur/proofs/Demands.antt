@@ -19,9 +19,9 @@ use Rattle.table.proofs.Written.{table-without-notes}
 use Rattle.netlist.proofs.Promises.{netlist-without-notes}
 use Rattle.sheet.proofs.Promises.{sheet-determines, sheet-length}
 use Rattle.drawing.specs.Drawing.{drawingIn}
-use Rattle.drawing.specs.Service.{tableFor, drawingRefusal, fromDrawingOf}
-use Rattle.drawing.proofs.Promises.{table-of-drawing, one-table, seventeen-if-wide}
-use Rattle.drawing.proofs.GivenBack.{table-given-back}
+use Rattle.truths.specs.Service.{tableFor, drawingRefusal, fromDrawingOf}
+use Rattle.truths.proofs.Promises.{table-of-drawing, one-table, seventeen-if-wide}
+use Rattle.truths.proofs.GivenBack.{table-given-back}
 use Rattle.rules.specs.Board.{tableBoard}
 use Rattle.rules.specs.Lamp.{lampBoard}
 use Rattle.synthesis.specs.Service.{checkedOr, checkedOf, buildingOf, lampBuildingOf}

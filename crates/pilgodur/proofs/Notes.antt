@@ -8,7 +8,7 @@ use Rattle.table.specs.Table.{diagramOf, diagramIn, fieldsRefusal, tableRefusal
 use Rattle.netlist.specs.Questions.{netlistOf, netlistIn, netlistRefusal}
 use Rattle.simulation.specs.Service.{runRefusal, runOf}
 use Rattle.sheet.specs.Service.{sheetingOf}
-use Rattle.drawing.specs.Service.{drawingRefusal, fromDrawingOf}
+use Rattle.truths.specs.Service.{drawingRefusal, fromDrawingOf}
 use Rattle.synthesis.specs.Service.{checkedOf, buildingOf, lampBuildingOf}
 use Rattle.probe.specs.Service.{probeRefusal, probingOf}
 use Rattle.pilgodur.specs.Answers.{probeOf}

@@ -16,7 +16,7 @@ use Rattle.table.specs.Encode.{bytesOf}
 use Rattle.functions.specs.Functions.{same, tree, place, firsts, levelOf, isNarrow}
 use Rattle.drawing.specs.Drawing.{isAbove, isDrawing, next, lead}
 use Rattle.drawing.specs.Drawing as drawing
-use Rattle.drawing.specs.Service.{drawingRefusal, fromDrawingOf}
+use Rattle.truths.specs.Service.{drawingRefusal, fromDrawingOf}
 use Rattle.rules.specs.Make.{_>>=_, sequence}
 use Rattle.rules.specs.Blocks.{cutWithin, cut, term, joined, productEntry, product, levelMatrix, block}
 use Rattle.rules.specs.Blocks as blocks

@@ -14,8 +14,8 @@ use Rattle.netlist.specs.Promises.{NetlistWithoutNotes}
 use Rattle.simulation.specs.Service.{runOf}
 use Rattle.sheet.specs.Service.{sheetingOf}
 use Rattle.sheet.specs.Promises.{SheetDetermines, SheetLength}
-use Rattle.drawing.specs.Service.{fromDrawingOf}
-use Rattle.drawing.specs.Promises.{TableOfDrawing, OneTable, SeventeenIfWide, TableGivenBack}
+use Rattle.truths.specs.Service.{fromDrawingOf}
+use Rattle.truths.specs.Promises.{TableOfDrawing, OneTable, SeventeenIfWide, TableGivenBack}
 use Rattle.synthesis.specs.Service.{checkedOf, buildingOf, lampBuildingOf}
 use Rattle.rules.specs.Promises.{WithinFormulas, BuiltFilesPass, RightCode, DifferentNetlists}
 use Rattle.pilgodur.specs.Answers.{probeOf}

@@ -7,7 +7,7 @@ use Rattle.fields.specs.Fields.{fieldsOf, withoutNotes}
 use Rattle.table.specs.Table.{readingOf}
 use Rattle.simulation.specs.Service.{runOf}
 use Rattle.sheet.specs.Service.{sheetingOf}
-use Rattle.drawing.specs.Service.{fromDrawingOf}
+use Rattle.truths.specs.Service.{fromDrawingOf}
 use Rattle.synthesis.specs.Service.{checkedOf, buildingOf, lampBuildingOf}
 use Rattle.pilgodur.specs.Answers.{probeOf}
 

@@ -7,7 +7,7 @@ use lib.ListN.{length, replicate}
 use Rattle.simulation.specs.Service.{runOf}
 use Rattle.sheet.specs.Sheet.{ascii}
 use Rattle.sheet.specs.Service.{sheetingOf}
-use Rattle.drawing.specs.Service.{fromDrawingOf}
+use Rattle.truths.specs.Service.{fromDrawingOf}
 use Rattle.synthesis.specs.Service.{checkedOf, buildingOf, lampBuildingOf}
 use Rattle.pilgodur.specs.Answers.{probeOf}
 

@@ -7,7 +7,7 @@ ghost use mathlib.Core.Path.{_≡_};
 ghost use Rattle.table.specs.Table.{readingOf};
 ghost use Rattle.simulation.specs.Service.{runOf};
 ghost use Rattle.sheet.specs.Service.{sheetingOf};
-ghost use Rattle.drawing.specs.Service.{fromDrawingOf};
+ghost use Rattle.truths.specs.Service.{fromDrawingOf};
 ghost use Rattle.synthesis.specs.Service.{checkedOf, buildingOf, lampBuildingOf};
 ghost use Rattle.pilgodur.specs.Answers.{wayNumber, probeOf};
 
@@ -110,5 +110,5 @@ pub extern "C" fn pilgodur_from_drawing(drawing: &[u8], table: &mut [u8]) -> Wri
     ensures { λ r. ⌜ record { refusal = r .refusal; length = r .length; buffer = now (table .exit) }
         ≡ fromDrawingOf (now (drawing .entry)) (now (table .entry)) ⌝ }
 {
-    drawing::from_drawing(drawing, table)
+    truths::from_drawing(drawing, table)
 }

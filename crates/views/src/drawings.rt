@@ -8,7 +8,7 @@ ghost use lib.ListN.{length};
 pub fn show(drawing: &[u8], case: &[u8]) {
     let room = spelling::number(case, 1, 244);
     let mut lent = [b'.'; 10610];
-    let written = drawing::from_drawing(drawing, &mut lent[0..room]);
+    let written = truths::from_drawing(drawing, &mut lent[0..room]);
     print::form(
         b": %, bytes %",
         written.refusal as usize,

@@ -1,0 +1,8 @@
+// The truth tables of drawings, and the service from-drawing.
+mod numbers;
+mod paths;
+mod service;
+mod tables;
+mod writing;
+
+pub use service::from_drawing;
