@@ -19,7 +19,7 @@ use Rattle.diagram.proofs.Paths.{value-bit}
 use Rattle.netlist.specs.declared.Hold.{Hold}
 use Rattle.netlist.specs.declared.Pair.{Pair}
 use Rattle.netlist.specs.Netlist.{isRead}
-use Rattle.netlist.proofs.Tests.{Wired}
+use Rattle.netlist.proofs.Sound.{Wired}
 use Rattle.rules.specs.Board.{boardOf, tableBoard}
 use Rattle.table.specs.Promises.{Accepted}
 use Rattle.table.specs.Table.{diagramIn}

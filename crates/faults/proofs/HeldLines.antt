@@ -15,8 +15,9 @@ use Rattle.fields.proofs.Bounded.{and-right}
 use Rattle.fields.proofs.Every.{Every, every-listed, every-weaken}
 use Rattle.simulation.specs.Run.{held}
 use Rattle.netlist.proofs.Lists.{length-holds}
-use Rattle.netlist.specs.Questions.{lineBefore, areHolds, areOrdered}
-use Rattle.netlist.proofs.Tests.{HoldIn, Wired, holds-at}
+use Rattle.netlist.proofs.Sound.{Wired}
+use Rattle.drive.specs.Questions.{lineBefore, areHolds, areOrdered}
+use Rattle.drive.proofs.Tests.{HoldIn, holds-at}
 use Rattle.simulation.proofs.Monotone.{AllHeld, held-by}
 use Rattle.rules.proofs.Models.{codeOf, OneSided, follows-weaken, follows-line}
 use Rattle.rules.proofs.Held.{shown, code-follows}

@@ -4,7 +4,7 @@ use mathlib.Core.Logic.{inl, inr, ⊎-elim}
 use Rattle.table.proofs.Accepted.{accepted}
 use Rattle.netlist.specs.Netlist.{holdsOf}
 use Rattle.simulation.specs.Service.{runOf}
-use Rattle.netlist.proofs.Files.{reads-back}
+use Rattle.wiring.proofs.Files.{reads-back}
 use Rattle.rules.specs.Board.{boardOf}
 use Rattle.table.specs.Table.{diagramIn}
 use Rattle.rules.proofs.Values.{no-wrong-code}

@@ -10,7 +10,7 @@ use lib.ListN.{length, getD}
 use Rattle.netlist.specs.declared.Hold.{Hold}
 use Rattle.netlist.specs.Netlist.{Netlist, gateLine, lineCount, isRead}
 use Rattle.netlist.proofs.Readers.{gate-elsewhere}
-use Rattle.netlist.proofs.Tests.{Wired}
+use Rattle.netlist.proofs.Sound.{Wired}
 use Rattle.simulation.specs.Run.{gateOf, held, valuesOf}
 use Rattle.simulation.proofs.Monotone.{held-elsewhere}
 use Rattle.simulation.proofs.Obeys.{Obeys, obeys}

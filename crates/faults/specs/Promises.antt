@@ -8,7 +8,7 @@ use lib.ListN.{length, getD}
 use Rattle.diagram.specs.Diagram.{Input, valueAt}
 use Rattle.netlist.specs.Netlist.{Netlist, holdAt, holdsOf, lineCount, isRead, fileOf}
 use Rattle.simulation.specs.Run.{valuesOf, shownBy}
-use Rattle.netlist.specs.Questions.{areOrdered}
+use Rattle.drive.specs.Questions.{areOrdered}
 use Rattle.simulation.specs.Service.{runRefusal, runOf}
 use Rattle.files.specs.Room.{over}
 use Rattle.rules.specs.Code.{codeRails}

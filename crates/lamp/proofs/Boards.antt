@@ -17,7 +17,7 @@ use Rattle.table.specs.Table.{diagramIn}
 use Rattle.table.proofs.Accepted.{AcceptedTable, accepted}
 use Rattle.netlist.specs.declared.Hold.{Hold}
 use Rattle.netlist.specs.Netlist.{lineCount}
-use Rattle.netlist.proofs.Tests.{PairIn, Wired, PairsWired}
+use Rattle.netlist.proofs.Sound.{PairIn, Wired, PairsWired}
 use Rattle.simulation.proofs.Monotone.{AllHeld}
 use Rattle.rules.specs.Board.{boardOf}
 use Rattle.rules.specs.Lamp.{noPair, lampOf, withLamp}

@@ -6,7 +6,7 @@ use native.Mathlib.Omega.{arith}
 use mathlib.Core.Path.{_≡_}
 use lib.ListN.{length}
 use Rattle.netlist.specs.Netlist.{Netlist, gateLine, lineCount}
-use Rattle.netlist.proofs.Tests.{Wired, PairsWired}
+use Rattle.netlist.proofs.Sound.{Wired, PairsWired}
 use Rattle.rules.specs.Board.{depthsOf, depthOf}
 use Rattle.rules.specs.Formulas.{log2up}
 use Rattle.rules.specs.Lamp.{lampOf, withLamp}

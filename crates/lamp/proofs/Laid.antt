@@ -3,7 +3,7 @@ use Prim.Native.Nat.{ℕ, _+_, _*_, _≤_, _<_}
 use native.Mathlib.Omega.{arith}
 use lib.ListN.{length}
 use Rattle.netlist.specs.Netlist.{Netlist, gateLine, lineCount}
-use Rattle.netlist.proofs.Tests.{GateOn, PairIn, Wired, PairsWired}
+use Rattle.netlist.proofs.Sound.{GateOn, PairIn, Wired, PairsWired}
 use Rattle.rules.specs.Blocks.{cut}
 use Rattle.rules.specs.Formulas.{log2up}
 use Rattle.rules.specs.Lamp.{noPair, lampOf, withLamp}

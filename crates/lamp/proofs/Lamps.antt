@@ -8,7 +8,7 @@ use Rattle.fields.specs.Bounded.{all}
 use Rattle.fields.proofs.Every.{Every, every-weaken}
 use Rattle.netlist.specs.declared.Hold.{Hold}
 use Rattle.netlist.specs.Netlist.{Netlist, lineCount}
-use Rattle.netlist.proofs.Tests.{Wired, PairsWired}
+use Rattle.netlist.proofs.Sound.{Wired, PairsWired}
 use Rattle.simulation.specs.Run.{held}
 use Rattle.simulation.proofs.Monotone.{AllHeld, held-elsewhere}
 use Rattle.rules.specs.Blocks.{cut}

@@ -11,8 +11,8 @@ use Rattle.table.specs.Promises.{Accepted}
 use Rattle.table.specs.Table.{diagramIn}
 use Rattle.netlist.specs.declared.Gate.{Gate}
 use Rattle.netlist.specs.Netlist.{Netlist, lineCount, holdsOf, netWith, fileOf}
-use Rattle.netlist.proofs.Files.{reads-back, file-determines, file-accepted}
-use Rattle.netlist.proofs.Tests.{Bounds, PairsWired, LampWired}
+use Rattle.netlist.proofs.Sound.{Bounds, PairsWired, LampWired}
+use Rattle.wiring.proofs.Files.{reads-back, file-determines, file-accepted}
 use Rattle.simulation.specs.Run.{valuesOf}
 use Rattle.simulation.proofs.Answers.{driven, driven-bits}
 use Rattle.rules.specs.Board.{boardOf, tableBoard}

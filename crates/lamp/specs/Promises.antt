@@ -12,9 +12,10 @@ use Rattle.fields.specs.Fields.{Bytes, withoutNotes}
 use Rattle.diagram.specs.Diagram.{Input, valueAt}
 use Rattle.table.specs.Promises.{Accepted}
 use Rattle.table.specs.Table.{diagramIn}
-use Rattle.netlist.specs.declared.drive.Rails.the-variants.{Driven}
 use Rattle.netlist.specs.Netlist.{holdsOf, lineCount, isRead, fileOf}
-use Rattle.netlist.specs.Questions.{railsOf, areOrdered, netlistIn, netlistRefusal}
+use Rattle.wiring.specs.Questions.{netlistIn, netlistRefusal}
+use Rattle.drive.specs.declared.Rails.the-variants.{Driven}
+use Rattle.drive.specs.Questions.{railsOf, areOrdered}
 use Rattle.simulation.specs.Run.{valuesOf, shownBy}
 use Rattle.rules.specs.Board.{depthOf, tableBoard}
 use Rattle.rules.specs.Code.{codeRails}

@@ -1,33 +1,21 @@
--- The file of a netlist reads back as that netlist, and a sound netlist's file passes questions 11 and 12.
-use borrow.Author.Tests.{le-leb}
+-- The bytes of a netlist's file: they name its gates and outputs, its fields are its parts.
 use native.Mathlib.Nat.{div-add-mod'}
 use native.Mathlib.Omega.{arith}
-use Prim.Native.Nat.{ℕ, _+_, _*_, _/_, _≤_, _<_}
-use mathlib.Core.Path.{_≡_, refl, sym, ap, ap₂, _∙_}
-use mathlib.Core.Bool.{true, _&&_}
+use Prim.Native.Nat.{ℕ, _+_, _*_, _<_}
+use mathlib.Core.Path.{_≡_, refl, ap₂, _∙_}
 use mathlib.Core.List.{List, [], _∷_, flatMap}
 use lib.ListN.{length, getD, getD-replicate}
 use lib.Seq.{ext-getD}
 use Rattle.fields.specs.declared.Framing.the-variants.{Whole}
-use Rattle.fields.specs.Fields.{numberOf, Item, Fields, fieldsOf, valueIn}
-use Rattle.fields.specs.Refusals.{firstNo}
-use Rattle.fields.proofs.Bounded.{all-of}
+use Rattle.fields.specs.Fields.{numberOf, Item, fieldsOf, valueIn}
 use Rattle.fields.proofs.Every.{Every}
 use Rattle.fields.proofs.Notes.{Plain, of-encoded}
 use Rattle.fields.proofs.Parts.{length-parts, part-at}
-use Rattle.files.specs.Header.{contactsIn}
-use Rattle.files.specs.Inner.Row.{endsWithin}
-use Rattle.files.proofs.Heads.{field}
-use Rattle.files.proofs.WholeParts.{whole-parts}
 use Rattle.netlist.specs.declared.Gate.{Gate}
 use Rattle.netlist.specs.declared.Pair.{Pair}
-use Rattle.netlist.specs.declared.form.Form.the-variants.{Formed}
-use Rattle.netlist.specs.Netlist.{Netlist, gateLine, lineCount, gateAt, pairAt, gatesOf, pairsOf, gateBytes, pairBytes, netWith, lampField, fileWith, fileOf}
-use Rattle.netlist.specs.Questions.{isGate, isPair, arePairs, formOf, isSound, netlistOf, netlistRefusal}
+use Rattle.netlist.specs.Netlist.{Netlist, gateAt, pairAt, gatesOf, pairsOf, gateBytes, pairBytes, lampField, fileWith, fileOf}
 use Rattle.netlist.specs.Inner.Lengths.{lampLength}
-use Rattle.netlist.proofs.Forms.{mayBeLamp, formed}
 use Rattle.netlist.proofs.Lists.{length-gates, getD-gates, length-pairs, getD-pairs}
-use Rattle.netlist.proofs.Tests.{on-gate, in-pair, Bounds, Wired, PairsIn, PairsWired, LampWired}
 use Rattle.netlist.proofs.Written.{length-file}
 
 -- The gates' bytes.
@@ -41,7 +29,7 @@ pub gate-byte : (gs : List Gate) (g k j : ℕ) → k < 5 → j ≡ g * 5 + k →
     getD (flatMap gateBytes gs) j 0 ≡ getD (gateBytes (getD gs g no-gate)) k 0
 gate-byte gs g k j h e = rw e (part-at gateBytes 5 (λ g. refl) no-gate (λ i l. getD-replicate 5 i 0 0 l) gs g k h)
 
-gate-back : (gs : List Gate) (g : ℕ) → gateAt (flatMap gateBytes gs) g ≡ getD gs g no-gate
+pub gate-back : (gs : List Gate) (g : ℕ) → gateAt (flatMap gateBytes gs) g ≡ getD gs g no-gate
 gate-back gs g =
     let m = getD gs g no-gate in
     let at = gate-byte gs g in
@@ -70,7 +58,7 @@ pub pair-byte : (ps : List Pair) (p k j : ℕ) → k < 4 → j ≡ p * 4 + k →
     getD (flatMap pairBytes ps) j 0 ≡ getD (pairBytes (getD ps p no-pair)) k 0
 pair-byte ps p k j h e = rw e (part-at pairBytes 4 (λ p. refl) no-pair (λ i l. getD-replicate 4 i 0 0 l) ps p k h)
 
-pair-back : (ps : List Pair) (j : ℕ) → pairAt (flatMap pairBytes ps) j ≡ getD ps j no-pair
+pub pair-back : (ps : List Pair) (j : ℕ) → pairAt (flatMap pairBytes ps) j ≡ getD ps j no-pair
 pair-back ps j =
     let p = getD ps j no-pair in
     let at = pair-byte ps j in
@@ -92,7 +80,7 @@ lamp-plain : (v : List ℕ) → Every Plain (lampField v)
 lamp-plain [] = tt
 lamp-plain (b ∷ v) = (omega arith, tt)
 
-lamp-value : (v : List ℕ) → valueIn (lampField v) 0 ≡ v
+pub lamp-value : (v : List ℕ) → valueIn (lampField v) 0 ≡ v
 lamp-value [] = refl
 lamp-value (b ∷ v) = refl
 
@@ -113,70 +101,3 @@ module _ (net : Netlist) where
   file-length =
       length-file (net .contacts) (flatMap gateBytes (net .gates)) (flatMap pairBytes (net .pairs)) (flatMap pairBytes (net .lamp))
       ∙ rw (length-gate-bytes (net .gates), length-pair-bytes (net .pairs), length-pair-bytes (net .lamp))
-
-  items-back : netlistOf itemsOf ≡ net
-  unfolding netlistOf
-  items-back =
-      let gates = gates-back (net .gates) in
-      let pairs = pairs-back (net .pairs) in
-      let lamp = ap pairsOf (lamp-value (flatMap pairBytes (net .lamp))) ∙ pairs-back (net .lamp) in
-      λ i. netWith (net .contacts) (gates i) (pairs i) (lamp i)
-
-  pub reads-back : netlistOf (fieldsOf (fileOf net) .items) ≡ net
-  reads-back = ap (λ (fs : Fields). netlistOf (fs .items)) file-fields ∙ items-back
-
--- Different netlists have different files.
-pub file-determines : (a b : Netlist) → fileOf a ≡ fileOf b → a ≡ b
-file-determines a b e = sym (reads-back a) ∙ ap (λ (f : List ℕ). netlistOf (fieldsOf f .items)) e ∙ reads-back b
-
--- At most one lamp ends a file as it should.
-ends-formed : (i j k : Item) (ps : List Pair) → length ps ≤ 1 → let is = i ∷ j ∷ k ∷ lampField (flatMap pairBytes ps) in
-    (mayBeLamp is ≡ true) × (endsWithin 4 (record { items = is; framing = Whole }) ≡ true)
-unfolding flatMap
-ends-formed i j k [] h = (refl, refl)
-ends-formed i j k (p ∷ []) h = (refl, refl)
-ends-formed i j k (p ∷ q ∷ ps) h = absurd (omega arith)
-
-module _ (net : Netlist) (b : Bounds net) where
-  items-formed : Formed (net .contacts) ≡ formOf (record { items = itemsOf net; framing = Whole })
-  unfolding contactsIn
-  items-formed =
-      let g = length-gate-bytes (net .gates) in
-      let p = length-pair-bytes (net .pairs) in
-      let ends =
-      ends-formed (field 1 (net .contacts ∷ [])) (field 4 (flatMap gateBytes (net .gates))) (field 5 (flatMap pairBytes (net .pairs))) (net .lamp) (b .lamp) in
-      formed (record { items = itemsOf net; framing = Whole })
-      (simp (le-leb _ _ (b .least), le-leb _ _ (b .most)))
-      (whole-parts 4 5 0 10602 (flatMap gateBytes (net .gates)) (omega arith) (omega arith) (omega arith))
-      (whole-parts 5 4 1 8 (flatMap pairBytes (net .pairs)) (omega arith) (omega arith) (omega arith))
-      (ends .0) (ends .1)
-
-  pub file-formed : formOf (fieldsOf (fileOf net)) ≡ Formed (net .contacts)
-  file-formed = ap formOf (file-fields net) ∙ sym items-formed
-
-  pairs-sound : (lines : ℕ) (ps : List Pair) → lines ≡ lineCount net → PairsIn (lineCount net) ps →
-      arePairs lines (flatMap pairBytes ps) ≡ true
-  pairs-sound lines ps e shown =
-      let u = flatMap pairBytes ps in
-      let p = length-pair-bytes ps in
-      all-of (λ j. isPair lines (pairAt u j)) (length u / 4)
-      (λ j h. ap₂ isPair e (pair-back ps j) ∙ in-pair _ _ (shown j no-pair (omega arith)))
-
-  module _ (wired : Wired net) (shown : PairsWired net) (lit : LampWired net) where
-    bytes-sound : isSound (net .contacts) (flatMap gateBytes (net .gates)) (flatMap pairBytes (net .pairs)) (flatMap pairBytes (net .lamp)) ≡ true
-    unfolding isSound
-    bytes-sound =
-        let v = flatMap gateBytes (net .gates) in
-        let g = length-gate-bytes (net .gates) in
-        let k : gateLine (net .contacts) + length v / 5 ≡ lineCount net = omega arith in
-        ap₂ _&&_
-        (ap₂ _&&_
-        (all-of (λ i. isGate (gateLine (net .contacts) + i) (gateAt v i)) (length v / 5)
-        (λ i h. ap (isGate (gateLine (net .contacts) + i)) (gate-back (net .gates) i)
-        ∙ on-gate _ _ (wired i no-gate (omega arith))))
-        (pairs-sound _ (net .pairs) k shown))
-        (pairs-sound _ (net .lamp) k lit)
-
-    pub file-accepted : netlistRefusal (fileOf net) ≡ 0
-    unfolding netlistRefusal firstNo
-    file-accepted = rw (file-formed, file-fields net, lamp-value (flatMap pairBytes (net .lamp)), bytes-sound)

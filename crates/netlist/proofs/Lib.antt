@@ -1,10 +1,5 @@
-pub mod Tests
+pub mod Sound
 pub mod Lists
-pub mod Forms
-pub mod Holds
-pub mod Accepted
-pub mod Files
 pub mod Written
-pub mod Opened
-pub mod Promises
+pub mod Files
 pub mod Readers

@@ -1,4 +1,2 @@
 pub mod Netlist
-pub mod Questions
 pub mod Inner
-pub mod Promises

@@ -1,29 +1,16 @@
-// Two-rail netlists of AND and OR gates: their files, and questions 11 to 14.
+// Two-rail netlists of AND and OR gates, and their files.
 //
 // Lines 0 and 1 are the constants. The true rail of contact i is line 2 + 2 i, its false rail 3 + 2 i, and gate g is line
 // 2 + 2 n + g.
-mod drive;
 mod file;
-mod form;
-mod reading;
-mod wiring;
+mod parts;
 
-pub use drive::Holds;
-pub use drive::Rails;
-pub use drive::ask_holds;
-pub use drive::ask_rails;
 pub use file::length_of;
 pub use file::put_file;
-pub use form::Form;
-pub use form::ask_form;
-pub use form::gate_at;
-pub use form::hold_at;
-pub use form::number_at;
-pub use form::pair_at;
-pub use reading::Parts;
-pub use reading::read;
-pub use wiring::Wiring;
-pub use wiring::ask_wiring;
+pub use parts::gate_at;
+pub use parts::hold_at;
+pub use parts::number_at;
+pub use parts::pair_at;
 
 // A gate: AND (kind 0) or OR (kind 1) of two lines.
 pub struct Gate {

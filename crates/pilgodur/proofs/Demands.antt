@@ -11,12 +11,12 @@ use Rattle.files.proofs.Writing.{refused-writing}
 use Rattle.table.specs.Table.{diagramIn, tableRefusal, readRefusal, readingOr, readingOf}
 use Rattle.netlist.specs.declared.Hold.{Hold}
 use Rattle.netlist.specs.Netlist.{Netlist, holdAt, fileOf}
-use Rattle.netlist.specs.Questions.{netlistIn, netlistRefusal}
+use Rattle.wiring.specs.Questions.{netlistIn, netlistRefusal}
 use Rattle.simulation.specs.Service.{runRefusal, ranOr, runOf}
 use Rattle.sheet.specs.Sheet.{sheetOf}
 use Rattle.sheet.specs.Service.{sheetingOf}
 use Rattle.table.proofs.Written.{table-without-notes}
-use Rattle.netlist.proofs.Promises.{netlist-without-notes}
+use Rattle.wiring.proofs.Promises.{netlist-without-notes}
 use Rattle.sheet.proofs.Promises.{sheet-determines, sheet-length}
 use Rattle.drawing.specs.Drawing.{drawingIn}
 use Rattle.truths.specs.Service.{tableFor, drawingRefusal, fromDrawingOf}

@@ -5,7 +5,7 @@ use mathlib.Core.List.{List}
 use Rattle.fields.specs.Fields.{Fields, fieldsOf, withoutNotes}
 use Rattle.fields.proofs.Notes.{notes-passed-over}
 use Rattle.table.specs.Table.{diagramOf, diagramIn, fieldsRefusal, tableRefusal, readRefusal, readingOf}
-use Rattle.netlist.specs.Questions.{netlistOf, netlistIn, netlistRefusal}
+use Rattle.wiring.specs.Questions.{netlistOf, netlistIn, netlistRefusal}
 use Rattle.simulation.specs.Service.{runRefusal, runOf}
 use Rattle.sheet.specs.Service.{sheetingOf}
 use Rattle.truths.specs.Service.{drawingRefusal, fromDrawingOf}

@@ -8,7 +8,7 @@ use Rattle.fields.proofs.Refusals.{first-yes}
 use Rattle.table.specs.Promises.{Accepted}
 use Rattle.table.specs.Table.{tableRefusal}
 use Rattle.netlist.specs.Netlist.{lineCount, isRead, holdAt}
-use Rattle.netlist.specs.Questions.{holdsNumber}
+use Rattle.drive.specs.Questions.{holdsNumber}
 use Rattle.rules.specs.Board.{boardOf, tableBoard}
 use Rattle.faults.specs.Betrayal.{stuckAt}
 use Rattle.pilgodur.specs.Answers.{wayNumber, probeOf}

@@ -10,7 +10,8 @@ use Rattle.diagram.specs.Questions.{inRange, distinct, mention, mentions, broug
 use Rattle.table.specs.Table.{outputsIn, areLevels, padded, diagramOf, fieldsRefusal, diagramRefusal, tableRefusal}
 use Rattle.netlist.specs.Netlist.{anyOf, isRead, gatesOf, pairsOf, holdsOf, fileOf, fileWith}
 use Rattle.simulation.specs.Run.{drive, workOut, held, valuesOf, shownOf}
-use Rattle.netlist.specs.Questions.{formOf, isSound, areOrdered, netlistOf, netlistRefusal}
+use Rattle.wiring.specs.Questions.{formOf, isSound, netlistOf, netlistRefusal}
+use Rattle.drive.specs.Questions.{areOrdered}
 use Rattle.simulation.specs.Service.{runRefusal, runOf}
 use Rattle.table.specs.Encode.{bytesOf}
 use Rattle.functions.specs.Functions.{same, tree, place, firsts, levelOf, isNarrow}

@@ -10,7 +10,7 @@ use Rattle.fields.specs.Promises.{FileIsRow, RowIsRead}
 use Rattle.diagram.specs.Promises.{FirstTwins, NoTwins, PairsCounted, AllPairs}
 use Rattle.table.specs.Promises.{TableWithoutNotes}
 use Rattle.table.specs.Table.{readingOf}
-use Rattle.netlist.specs.Promises.{NetlistWithoutNotes}
+use Rattle.wiring.specs.Promises.{NetlistWithoutNotes}
 use Rattle.simulation.specs.Service.{runOf}
 use Rattle.sheet.specs.Service.{sheetingOf}
 use Rattle.sheet.specs.Promises.{SheetDetermines, SheetLength}

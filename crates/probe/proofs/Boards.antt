@@ -11,13 +11,13 @@ use Rattle.diagram.specs.declared.Diagram.{Diagram}
 use Rattle.diagram.specs.Questions.{Sized}
 use Rattle.diagram.proofs.Unique.{Reduced}
 use Rattle.table.proofs.Accepted.{accepted}
-use Rattle.netlist.specs.declared.drive.Holds.the-variants.{Ordered}
 use Rattle.netlist.specs.Netlist.{Netlist, gateLine, lineCount, isRead, gateBytes, pairBytes, netWith, holdAt, fileWith, fileOf, netOf}
-use Rattle.netlist.specs.Questions.{areHolds}
 use Rattle.netlist.specs.declared.Pair.{Pair}
 use Rattle.netlist.proofs.Written.{file-of}
 use Rattle.netlist.proofs.Files.{file-fields, file-length, length-gate-bytes, length-pair-bytes, gates-back, pairs-back}
-use Rattle.netlist.proofs.Opened.{Opened, gates-wired, outputs-wired}
+use Rattle.wiring.proofs.Opened.{Opened, gates-wired, outputs-wired}
+use Rattle.drive.specs.declared.Holds.the-variants.{Ordered}
+use Rattle.drive.specs.Questions.{areHolds}
 use Rattle.rules.specs.Board.{boardOf, tableBoard}
 use Rattle.table.specs.Promises.{Accepted}
 use Rattle.table.specs.Table.{diagramIn}

@@ -7,12 +7,12 @@ use mathlib.Core.List.{List, [], _∷_}
 use borrow.Author.Tests.{eqb-true}
 use lib.Dec.{eqb}
 use lib.ListN.{length}
-use Rattle.netlist.specs.declared.drive.Holds.{Holds}
-use Rattle.netlist.specs.declared.drive.Holds.the-variants.{Ordered, Disordered}
 use Rattle.netlist.specs.Netlist.{holdAt, holdsOf}
+use Rattle.drive.specs.declared.Holds.{Holds}
+use Rattle.drive.specs.declared.Holds.the-variants.{Ordered, Disordered}
 use Rattle.fields.specs.Bounded.{listed}
-use Rattle.netlist.specs.Questions.{areHolds, areOrdered, holdsNumber}
-use Rattle.netlist.proofs.Tests.{HoldIn, holds-at}
+use Rattle.drive.specs.Questions.{areHolds, areOrdered, holdsNumber}
+use Rattle.drive.proofs.Tests.{HoldIn, holds-at}
 use Rattle.probe.specs.Service.{oneHold}
 
 -- One hold's bytes are a hold list of one hold.

@@ -10,10 +10,10 @@ use Rattle.table.specs.declared.reading.Table.{Table}
 use Rattle.table.specs.Table.{tableRefusal}
 use Rattle.table.specs.Inner.Read.{tableOf}
 use Rattle.table.proofs.Tables.{table-refusal}
-use Rattle.netlist.specs.declared.drive.Holds.the-variants.{Ordered, Disordered}
+use Rattle.drive.specs.declared.Holds.the-variants.{Ordered, Disordered}
 use Rattle.files.specs.declared.room.Room.the-variants.{Enough, Short}
 use Rattle.netlist.specs.Netlist.{Netlist, gateLine, lineCount, holdAt, fileOf}
-use Rattle.netlist.specs.Questions.{holdsNumber}
+use Rattle.drive.specs.Questions.{holdsNumber}
 use Rattle.files.specs.Room.{over, roomOf, roomNumber}
 use Rattle.files.proofs.Buffers.{enough}
 use Rattle.rules.specs.Board.{boardOf}

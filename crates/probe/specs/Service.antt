@@ -8,10 +8,10 @@ use Rattle.fields.specs.Refusals.{firstNo}
 use Rattle.table.specs.Table.{tableRefusal}
 use Rattle.netlist.specs.declared.Hold.{Hold}
 use Rattle.netlist.specs.declared.Pair.{Pair}
-use Rattle.netlist.specs.declared.drive.Holds.{Holds}
-use Rattle.netlist.specs.declared.drive.Holds.the-variants.{Ordered, Disordered}
 use Rattle.netlist.specs.Netlist.{Netlist, holdAt, lineCount, isRead, fileOf}
-use Rattle.netlist.specs.Questions.{areOrdered, holdsNumber}
+use Rattle.drive.specs.declared.Holds.{Holds}
+use Rattle.drive.specs.declared.Holds.the-variants.{Ordered, Disordered}
+use Rattle.drive.specs.Questions.{areOrdered, holdsNumber}
 use Rattle.files.specs.Room.{over, roomOf, roomNumber}
 use Rattle.rules.specs.Board.{tableBoard}
 use Rattle.probe.specs.declared.fanout.Fanout.{Fanout}

@@ -2,8 +2,8 @@
 use crate::fanout;
 use crate::fanout::Fanout;
 use diagram::Diagram;
+use drive::Holds;
 use files::Room;
-use netlist::Holds;
 ghost use mathlib.Core.Path.{_≡_};
 ghost use mathlib.Core.Bool.{true};
 ghost use mathlib.Core.List.{[], _++_};
@@ -11,7 +11,7 @@ ghost use Prim.Native.Nat.{_+_, _*_, _≤_};
 ghost use lib.ListN.{length, take};
 ghost use Rattle.diagram.specs.Diagram.{inputOf};
 ghost use Rattle.netlist.specs.Netlist.{holdAt, pairsOf, fileWith, netOf};
-ghost use Rattle.netlist.specs.Questions.{arePairs};
+ghost use Rattle.wiring.specs.Questions.{arePairs};
 ghost use Rattle.files.specs.Room.{over};
 ghost use Rattle.rules.specs.Board.{boardOf};
 ghost use Rattle.rules.specs.Code.{codeRails};
@@ -53,7 +53,7 @@ fn ask_one_hold(lines: usize, hold: &[u8]) -> Holds
     if hold.len() != 3 {
         return Holds::Disordered;
     }
-    netlist::ask_holds(lines, hold)
+    drive::ask_holds(lines, hold)
 }
 
 // The rails of a code input, in line order from the start of the array.

@@ -9,7 +9,7 @@ use Rattle.netlist.specs.declared.Gate.{Gate}
 use Rattle.netlist.specs.declared.Pair.{Pair}
 use Rattle.netlist.specs.Netlist.{Netlist, lineCount, gateBytes, pairBytes, lampField, fileWith, fileOf}
 use Rattle.netlist.proofs.Files.{length-gate-bytes, length-pair-bytes}
-use Rattle.netlist.proofs.Tests.{Bounds, Wired, PairsIn, PairsWired, LampWired}
+use Rattle.netlist.proofs.Sound.{Bounds, Wired, PairsIn, PairsWired, LampWired}
 
 lamp-small : (v : List ℕ) → length v < 65536 → Small v → Small (encoded (lampField v))
 unfolding encoded

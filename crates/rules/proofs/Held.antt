@@ -6,7 +6,7 @@ use lib.ListN.{length, getD}
 use Rattle.diagram.specs.Diagram.{Input}
 use Rattle.netlist.specs.declared.Hold.{Hold}
 use Rattle.netlist.specs.Netlist.{Netlist}
-use Rattle.netlist.proofs.Tests.{Wired}
+use Rattle.netlist.proofs.Sound.{Wired}
 use Rattle.simulation.specs.Run.{held, valuesOf}
 use Rattle.simulation.proofs.Monotone.{AllHeld, lines-bits}
 use Rattle.simulation.proofs.Obeys.{obeys}

@@ -4,8 +4,8 @@ use mathlib.Core.Path.{sym, _∙_}
 use Rattle.table.proofs.Accepted.{accepted}
 use Rattle.table.proofs.Encode.{bytes-are}
 use Rattle.table.proofs.SameFile.{same-file}
-use Rattle.netlist.proofs.Files.{reads-back, file-determines, file-accepted}
-use Rattle.netlist.proofs.Tests.{Bounds, LampWired}
+use Rattle.netlist.proofs.Sound.{Bounds, LampWired}
+use Rattle.wiring.proofs.Files.{reads-back, file-determines, file-accepted}
 use Rattle.rules.specs.Board.{boardOf, tableBoard}
 use Rattle.rules.specs.Promises.{WithinFormulas, BuiltFilesPass, RightCode, DifferentNetlists}
 use Rattle.table.specs.Table.{diagramIn}

@@ -10,7 +10,7 @@ use Rattle.diagram.specs.Diagram.{root}
 use Rattle.diagram.proofs.Paths.{Branches}
 use Rattle.netlist.specs.declared.Gate.{Gate}
 use Rattle.netlist.specs.Netlist.{Netlist, gateLine, lineCount}
-use Rattle.netlist.proofs.Tests.{GateOn, Wired, PairsWired}
+use Rattle.netlist.proofs.Sound.{GateOn, Wired, PairsWired}
 use Rattle.rules.specs.declared.Entry.{Entry}
 use Rattle.rules.specs.Blocks.{cut, entryAt}
 use Rattle.rules.specs.Board.{lineOf, wholeBlock, boardOf}

@@ -9,7 +9,7 @@ use Rattle.table.specs.Promises.{Accepted}
 use Rattle.table.specs.Table.{diagramIn}
 use Rattle.netlist.specs.Netlist.{fileOf}
 use Rattle.simulation.specs.Run.{valuesOf, shownBy}
-use Rattle.netlist.specs.Questions.{netlistIn, netlistRefusal}
+use Rattle.wiring.specs.Questions.{netlistIn, netlistRefusal}
 use Rattle.rules.specs.Board.{depthOf, tableBoard}
 use Rattle.rules.specs.Code.{codeRails}
 use Rattle.rules.specs.Formulas.{gatesMost, depthMost}

@@ -11,7 +11,7 @@ use Rattle.netlist.specs.Netlist.{gateAt}
 use Rattle.fields.specs.Bounded.{listed}
 use lib.Seq.{getD-set-other, getD-take}
 use Rattle.simulation.specs.Run.{Rule, Driver, gate, workOut}
-use Rattle.netlist.proofs.Tests.{gates-at}
+use Rattle.wiring.proofs.Tests.{gates-at}
 use Rattle.batches.specs.Inner.Batches.{gateBatch, ruleOf, GatesReady}
 use Rattle.bits.specs.Inner.Bits.{bitOf, bitsOf}
 use Rattle.search.proofs.Lines.{made-bit, gates-more}

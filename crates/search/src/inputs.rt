@@ -6,7 +6,7 @@ ghost use Prim.Native.Nat.{ℕ, _/_, _≤_, _<_};
 ghost use lib.ListN.{length};
 ghost use Rattle.diagram.specs.Diagram.{bit};
 ghost use Rattle.netlist.specs.Netlist.{pairsOf, netOf};
-ghost use Rattle.netlist.specs.Questions.{arePairs};
+ghost use Rattle.wiring.specs.Questions.{arePairs};
 ghost use Rattle.faults.specs.Betrayal.{someNoCode, lowestNoCode, smallestInput};
 ghost use Rattle.batches.specs.Inner.Batches.{SearchReady, BuffersFit};
 ghost use Rattle.bits.specs.Inner.Bits.{bitOf, bitsOf};

@@ -7,12 +7,12 @@ use lib.ListN.{length}
 use Rattle.files.specs.declared.room.Room.the-variants.{Enough, Short}
 use Rattle.files.specs.Room.{over, roomOf}
 use Rattle.files.proofs.Writing.{refused-before, too-short, written-whole}
-use Rattle.netlist.specs.declared.reading.Parts.{Parts}
 use Rattle.netlist.specs.Netlist.{gateLine, gatesOf, pairsOf, netWith}
-use Rattle.netlist.specs.Questions.{netlistIn}
-use Rattle.netlist.specs.Inner.Read.{Read}
 use Rattle.netlist.proofs.Lists.{length-gates, length-pairs}
-use Rattle.netlist.proofs.Opened.{Opened, net-is, bounded}
+use Rattle.wiring.specs.declared.reading.Parts.{Parts}
+use Rattle.wiring.specs.Questions.{netlistIn}
+use Rattle.wiring.specs.Inner.Read.{Read}
+use Rattle.wiring.proofs.Opened.{Opened, net-is, bounded}
 use Rattle.sheet.specs.Sheet.{sheetOf}
 use Rattle.sheet.specs.Service.{sheetingOf}
 use Rattle.sheet.specs.Inner.Places.{endOf}

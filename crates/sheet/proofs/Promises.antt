@@ -12,11 +12,11 @@ use Rattle.fields.proofs.Every.{Every, every-by, every-append}
 use Rattle.netlist.specs.declared.Gate.{Gate}
 use Rattle.netlist.specs.declared.Pair.{Pair}
 use Rattle.netlist.specs.Netlist.{Netlist, gateLine, lineCount, netWith, fileOf}
-use Rattle.netlist.specs.Questions.{netlistIn, netlistRefusal}
 use Rattle.netlist.proofs.Files.{no-gate, no-pair}
-use Rattle.netlist.proofs.Tests.{Bounds, Wired, PairsIn, PairsWired, LampWired}
-use Rattle.netlist.proofs.Accepted.{accepted}
-use Rattle.netlist.proofs.Promises.{netlist-writes-back}
+use Rattle.netlist.proofs.Sound.{Bounds, Wired, PairsIn, PairsWired, LampWired}
+use Rattle.wiring.specs.Questions.{netlistIn, netlistRefusal}
+use Rattle.wiring.proofs.Accepted.{accepted}
+use Rattle.wiring.proofs.Promises.{netlist-writes-back}
 use Rattle.sheet.specs.declared.row.Kind.{Kind}
 use Rattle.sheet.specs.declared.row.Kind.the-variants.{And, Or, Out, Lamp}
 use Rattle.sheet.specs.declared.row.Row.{Row}

@@ -4,7 +4,7 @@ use mathlib.Core.Path.{_≡_}
 use mathlib.Core.List.{List}
 use lib.ListN.{length}
 use Rattle.fields.specs.Fields.{Bytes, withoutNotes}
-use Rattle.netlist.specs.Questions.{netlistIn, netlistRefusal}
+use Rattle.wiring.specs.Questions.{netlistIn, netlistRefusal}
 use Rattle.sheet.specs.Sheet.{sheetOf}
 
 -- The sheet determines the netlist once the count of contacts is given: two netlist files of bytes that pass questions 11 and 12,

@@ -2,7 +2,7 @@
 use Prim.Native.Nat.{ℕ}
 use mathlib.Core.List.{List}
 use Rattle.files.specs.Room.{Writing, writingOf}
-use Rattle.netlist.specs.Questions.{netlistIn, netlistRefusal}
+use Rattle.wiring.specs.Questions.{netlistIn, netlistRefusal}
 use Rattle.sheet.specs.Sheet.{sheetOf}
 
 -- It writes the netlist's sheet, after questions 11 and 12.

@@ -10,7 +10,7 @@ pub fn sheet(netlist: &[u8], text: &mut [u8]) -> Written
     ensures { λ r. ⌜ record { refusal = r .refusal; length = r .length; buffer = now (text .exit) }
         ≡ sheetingOf (now (netlist .entry)) (now (text .entry)) ⌝ }
 {
-    let parts = netlist::read(netlist);
+    let parts = wiring::read(netlist);
     let refusal = parts.refusal;
     if refusal != 0 {
         return files::refused(refusal);

@@ -11,16 +11,17 @@ use lib.Dec.{eqb}
 use lib.ListN.{length, getD, List·getD-eq-default}
 use Rattle.fields.specs.Bounded.{all}
 use Rattle.fields.proofs.Bounded.{all-at, all-of}
-use Rattle.netlist.specs.declared.drive.Rails.the-variants.{Driven, Undriven}
-use Rattle.netlist.specs.declared.drive.Holds.the-variants.{Ordered, Disordered}
+use Rattle.drive.specs.declared.Rails.the-variants.{Driven, Undriven}
+use Rattle.drive.specs.declared.Holds.the-variants.{Ordered, Disordered}
 use Rattle.files.specs.declared.room.Room.the-variants.{Enough}
 use Rattle.netlist.specs.Netlist.{gateLine, pairAt}
-use Rattle.netlist.specs.Questions.{isPair, arePairs, isBit, railsOf, areHolds, areOrdered, orderOf}
+use Rattle.wiring.specs.Questions.{isPair, arePairs}
+use Rattle.drive.specs.Questions.{isBit, railsOf, areHolds, areOrdered, orderOf}
 use Rattle.files.specs.Room.{roomOf}
 use Rattle.files.proofs.Buffers.{enough}
-use Rattle.netlist.proofs.Opened.{Opened, few-contacts, gates-wired}
+use Rattle.wiring.proofs.Opened.{Opened, few-contacts, gates-wired}
 use Rattle.simulation.specs.Inner.Walk.{Ready}
-use Rattle.netlist.proofs.Tests.{pairs-at, in-pair}
+use Rattle.wiring.proofs.Tests.{pairs-at, in-pair}
 
 -- The yes of each question.
 driven-by : (n : ℕ) (rails : List ℕ) → railsOf n rails ≡ Driven → (eqb (length rails) (2 * n) ≡ true) × (all (2 * n) (isBit rails) ≡ true)

@@ -10,7 +10,7 @@ use lib.Seq.{getD-append-add, getD-take}
 use Rattle.netlist.specs.declared.Gate.{Gate}
 use Rattle.netlist.specs.declared.Hold.{Hold}
 use Rattle.netlist.specs.Netlist.{Netlist, gateLine, lineCount}
-use Rattle.netlist.proofs.Tests.{Wired}
+use Rattle.netlist.proofs.Sound.{Wired}
 use Rattle.simulation.specs.Run.{Driver, rail, gate, Rule, drive, workOut, gateOf, held, holding, valuesOf}
 use Rattle.simulation.proofs.Runs.{length-run, run-first, run-at}
 

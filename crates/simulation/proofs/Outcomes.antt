@@ -7,24 +7,25 @@ use mathlib.Core.List.{List, [], _∷_, _++_}
 use lib.ListN.{length, length-append, length-map}
 use lib.Seq.{sets}
 use Rattle.fields.specs.Refusals.{firstNo}
-use Rattle.netlist.specs.declared.drive.Rails.the-variants.{Driven, Undriven}
-use Rattle.netlist.specs.declared.drive.Holds.the-variants.{Ordered, Disordered}
+use Rattle.drive.specs.declared.Rails.the-variants.{Driven, Undriven}
+use Rattle.drive.specs.declared.Holds.the-variants.{Ordered, Disordered}
 use Rattle.files.specs.declared.room.Room.the-variants.{Enough, Short}
 use Rattle.netlist.specs.Netlist.{gateLine, gatesOf, pairAt, pairsOf, holdsOf}
 use Rattle.simulation.specs.Run.{holding, driversOf, workOut, valuesOf, shownOf}
-use Rattle.netlist.specs.Questions.{arePairs, railsOf, railsNumber, orderOf, holdsNumber}
+use Rattle.wiring.specs.Questions.{arePairs}
+use Rattle.drive.specs.Questions.{railsOf, railsNumber, orderOf, holdsNumber}
 use Rattle.simulation.specs.Service.{runRefusal, runOf}
 use Rattle.files.specs.Room.{over, roomOf, roomNumber}
 use Rattle.fields.proofs.Refusals.{first-no}
 use Rattle.files.proofs.Buffers.{enough, sets-over}
 use Rattle.files.proofs.Written.{onward}
-use Rattle.netlist.specs.declared.reading.Parts.{Parts}
-use Rattle.netlist.specs.Inner.Read.{Read}
-use Rattle.netlist.proofs.Opened.{Opened, net-is, outputs-wired, lamp-wired}
+use Rattle.wiring.specs.declared.reading.Parts.{Parts}
+use Rattle.wiring.specs.Inner.Read.{Read}
+use Rattle.wiring.proofs.Opened.{Opened, net-is, outputs-wired, lamp-wired}
 use Rattle.simulation.proofs.Answers.{driven}
 use Rattle.netlist.proofs.Lists.{length-gates, length-pairs, getD-pairs}
 use Rattle.simulation.proofs.Runs.{length-run}
-use Rattle.netlist.proofs.Tests.{pairs-at}
+use Rattle.wiring.proofs.Tests.{pairs-at}
 use Rattle.simulation.proofs.Turns.{length-shown, shown-over}
 
 module _ (file rails holds lines pairs : List ℕ) where

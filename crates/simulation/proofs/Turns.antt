@@ -14,7 +14,7 @@ use Rattle.fields.specs.Bounded.{listed}
 use Rattle.simulation.specs.Run.{Driver, rail, gate, drive, gateOf, held, holding, shownOf}
 use Rattle.files.specs.Room.{over}
 use Rattle.fields.proofs.Listed.{length-listed, listed-more}
-use Rattle.netlist.proofs.Tests.{GateOn, PairIn}
+use Rattle.netlist.proofs.Sound.{GateOn, PairIn}
 use Rattle.simulation.proofs.Writes.{worked, source, one-more}
 use Rattle.files.proofs.Buffers.{over-at}
 use Rattle.files.proofs.Written.{onward}

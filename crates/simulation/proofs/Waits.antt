@@ -14,9 +14,9 @@ use Rattle.simulation.specs.declared.simulate.Waiting.{Waiting}
 use Rattle.netlist.specs.Netlist.{holdAt, holdsOf}
 use Rattle.fields.specs.Bounded.{listed}
 use Rattle.simulation.specs.Run.{held}
-use Rattle.netlist.specs.Questions.{areHolds}
+use Rattle.drive.specs.Questions.{areHolds}
 use Rattle.simulation.specs.Inner.Walk.{lineOrNone, Waits}
-use Rattle.netlist.proofs.Tests.{holds-at}
+use Rattle.drive.proofs.Tests.{holds-at}
 
 module _ (f : ℕ → Hold) (line v : ℕ) where
   -- Where no hold names a line, it shows what is made.

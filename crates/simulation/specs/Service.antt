@@ -5,7 +5,8 @@ use lib.ListN.{length}
 use Rattle.fields.specs.Refusals.{firstNo}
 use Rattle.files.specs.Room.{roomOf, roomNumber, over}
 use Rattle.netlist.specs.Netlist.{Netlist, holdsOf, lineCount}
-use Rattle.netlist.specs.Questions.{railsOf, railsNumber, orderOf, holdsNumber, netlistIn, netlistRefusal}
+use Rattle.wiring.specs.Questions.{netlistIn, netlistRefusal}
+use Rattle.drive.specs.Questions.{railsOf, railsNumber, orderOf, holdsNumber}
 use Rattle.simulation.specs.Run.{valuesOf, shownBy}
 
 -- What a run returns, and what it leaves in the two lent buffers.

@@ -1,7 +1,7 @@
 // A netlist run with lines held.
+use drive::Holds;
+use drive::Rails;
 use files::Room;
-use netlist::Holds;
-use netlist::Rails;
 ghost use mathlib.Core.Path.{_≡_};
 ghost use mathlib.Core.Bool.{true};
 ghost use mathlib.Core.List.{_∷_, [], map};
@@ -10,7 +10,7 @@ ghost use lib.ListN.{length};
 ghost use lib.Seq.{sets};
 ghost use Rattle.netlist.specs.Netlist.{gatesOf, pairsOf, holdsOf};
 ghost use Rattle.simulation.specs.Run.{rail, gate, gateOf, held, holding, driversOf, workOut, shownOf};
-ghost use Rattle.netlist.specs.Questions.{areGates, arePairs};
+ghost use Rattle.wiring.specs.Questions.{areGates, arePairs};
 ghost use Rattle.simulation.specs.Service.{runOf};
 ghost use Rattle.files.specs.Room.{over};
 ghost use Rattle.simulation.specs.Inner.Walk.{lineOrNone, Waits, workedOver, Ready};
@@ -145,7 +145,7 @@ pub fn run(netlist: &[u8], rails: &[u8], holds: &[u8], lines: &mut [u8], pairs: 
     ensures { λ r. ⌜ record { refusal = r; lines = now (lines .exit); pairs = now (pairs .exit) }
         ≡ runOf (now (netlist .entry)) (now (rails .entry)) (now (holds .entry)) (now (lines .entry)) (now (pairs .entry)) ⌝ }
 {
-    let parts = netlist::read(netlist);
+    let parts = wiring::read(netlist);
     let refusal = parts.refusal;
     if refusal != 0 {
         return refusal;
@@ -154,11 +154,11 @@ pub fn run(netlist: &[u8], rails: &[u8], holds: &[u8], lines: &mut [u8], pairs: 
     let gates = fields::value(netlist, parts.gates);
     let outputs = fields::value(netlist, parts.outputs);
     let lamp = fields::value(netlist, parts.lamp);
-    let Rails::Driven = netlist::ask_rails(n, rails) else {
+    let Rails::Driven = drive::ask_rails(n, rails) else {
         return 13;
     };
     let count = 2 + 2 * n + gates.len() / 5;
-    let Holds::Ordered = netlist::ask_holds(count, holds) else {
+    let Holds::Ordered = drive::ask_holds(count, holds) else {
         return 14;
     };
     let Room::Enough = files::ask_room(count, lines.len()) else {

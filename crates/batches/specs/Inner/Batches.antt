@@ -12,7 +12,7 @@ use Rattle.diagram.specs.Diagram.{inputOf}
 use Rattle.netlist.specs.Netlist.{gateAt, gateLine, gatesOf, netOf}
 use Rattle.simulation.specs.Run.{Rule, rail, gate, holding, workOut}
 use Rattle.rules.specs.Code.{codeRails}
-use Rattle.netlist.specs.Questions.{areGates, arePairs}
+use Rattle.wiring.specs.Questions.{areGates, arePairs}
 use Rattle.faults.specs.Betrayal.{betrays}
 use Rattle.bits.specs.Inner.Bits.{bitOf, bitsOf}
 

@@ -9,7 +9,8 @@ use Rattle.diagram.specs.declared.Diagram.{Diagram}
 use Rattle.table.specs.Promises.{Accepted}
 use Rattle.table.specs.Table.{diagramIn}
 use Rattle.netlist.specs.Netlist.{pairsOf, gateLine, holdAt, fileWith, netOf}
-use Rattle.netlist.specs.Questions.{areGates, areHolds}
+use Rattle.wiring.specs.Questions.{areGates}
+use Rattle.drive.specs.Questions.{areHolds}
 use Rattle.files.specs.Room.{over}
 use Rattle.probe.specs.declared.service.Probed.{Probed}
 use Rattle.faults.specs.Betrayal.{stuckAt, smallestInput}

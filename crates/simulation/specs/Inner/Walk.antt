@@ -9,7 +9,8 @@ use Rattle.files.specs.Room.{over}
 use Rattle.simulation.specs.Run.{Driver, holding, workOut}
 use Rattle.simulation.specs.declared.simulate.Waiting.{Waiting}
 use Rattle.netlist.specs.Netlist.{holdAt, holdsOf}
-use Rattle.netlist.specs.Questions.{areGates, areHolds}
+use Rattle.wiring.specs.Questions.{areGates}
+use Rattle.drive.specs.Questions.{areHolds}
 
 -- The line of hold i, or 0, which is never held, past the last.
 abbrev pub lineOrNone : List ℕ → ℕ → ℕ

@@ -5,7 +5,7 @@ use native.Mathlib.Omega.{arith}
 use lib.ListN.{length}
 use Rattle.netlist.specs.Netlist.{pairsOf}
 use Rattle.netlist.proofs.Lists.{length-pairs}
-use Rattle.netlist.proofs.Tests.{pairs-at}
+use Rattle.wiring.proofs.Tests.{pairs-at}
 use Rattle.faults.specs.Betrayal.{noCode}
 use Rattle.fields.proofs.Least.{least-first}
 use Rattle.probe.proofs.Probes.{found-by}

@@ -8,11 +8,11 @@ use lib.ListN.{length, take}
 use lib.Seq.{length-take-le}
 use Rattle.diagram.specs.declared.Diagram.{Diagram}
 use Rattle.diagram.specs.Questions.{Sized}
-use Rattle.netlist.specs.declared.drive.Holds.the-variants.{Ordered}
+use Rattle.drive.specs.declared.Holds.the-variants.{Ordered}
 use Rattle.files.specs.declared.room.Room.the-variants.{Enough}
 use Rattle.netlist.specs.declared.Hold.{Hold}
 use Rattle.netlist.specs.Netlist.{gateLine, lineCount, holdAt}
-use Rattle.netlist.proofs.Tests.{HoldIn}
+use Rattle.drive.proofs.Tests.{HoldIn}
 use Rattle.files.specs.Room.{roomOf}
 use Rattle.rules.specs.Board.{boardOf}
 use Rattle.synthesis.proofs.Services.{gates-few, taken-gates, taken-pairs}

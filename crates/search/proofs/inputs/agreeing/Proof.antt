@@ -8,7 +8,8 @@ use Rattle.fields.specs.Bounded.{any}
 use Rattle.diagram.specs.Diagram.{bit}
 use Rattle.netlist.specs.Netlist.{pairAt, pairsOf}
 use Rattle.netlist.proofs.Lists.{length-pairs}
-use Rattle.netlist.proofs.Tests.{PairIn, pairs-at}
+use Rattle.netlist.proofs.Sound.{PairIn}
+use Rattle.wiring.proofs.Tests.{pairs-at}
 use Rattle.faults.specs.Betrayal.{noCode}
 use Rattle.bits.specs.Inner.Bits.{bitOf, bitsOf}
 use Rattle.search.proofs.Agree.{agree-more}

@@ -10,7 +10,8 @@ use lib.Dec.{eqb}
 use lib.ListN.{length}
 use Rattle.netlist.specs.Netlist.{pairsOf, pairAt}
 use Rattle.netlist.proofs.Lists.{length-pairs}
-use Rattle.netlist.proofs.Tests.{PairIn, pairs-at}
+use Rattle.netlist.proofs.Sound.{PairIn}
+use Rattle.wiring.proofs.Tests.{pairs-at}
 use Rattle.faults.specs.Betrayal.{noCode}
 use Rattle.search.proofs.Agree.{agree-at}
 use Rattle.fields.proofs.Least.{least-is, within}

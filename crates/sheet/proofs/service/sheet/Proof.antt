@@ -6,7 +6,7 @@ use mathlib.Core.Path.{_≡_, sym, _∙_}
 use lib.ListN.{length}
 use Rattle.files.specs.Room.{roomOf}
 use Rattle.files.proofs.Buffers.{enough}
-use Rattle.netlist.proofs.Opened.{Opened, opened, few-contacts}
+use Rattle.wiring.proofs.Opened.{Opened, opened, few-contacts}
 use Rattle.sheet.specs.Inner.Places.{endOf}
 use Rattle.sheet.proofs.Outcomes.{unread, counts, short, done}
 use Rattle.sheet.proofs.service.sheet.Statement.{statement}

@@ -11,7 +11,8 @@ use Rattle.fields.specs.Bounded.{listed}
 use Rattle.simulation.specs.Run.{gate, held, holding, workOut}
 use Rattle.files.specs.Room.{over}
 use Rattle.simulation.specs.Inner.Walk.{Waits}
-use Rattle.netlist.proofs.Tests.{GateOn, gates-at}
+use Rattle.netlist.proofs.Sound.{GateOn}
+use Rattle.wiring.proofs.Tests.{gates-at}
 use Rattle.simulation.proofs.Turns.{gate-more, gates-done}
 use Rattle.files.proofs.Buffers.{over-own}
 use Rattle.simulation.proofs.simulate.put_gates.Statement.{statement}

@@ -8,11 +8,11 @@ use lib.ListN.{length}
 use Rattle.files.specs.declared.room.Room.the-variants.{Enough}
 use Rattle.files.specs.Room.{roomOf}
 use Rattle.files.proofs.Buffers as buffers
-use Rattle.netlist.specs.declared.drive.Rails.the-variants.{Driven}
-use Rattle.netlist.specs.declared.drive.Holds.the-variants.{Ordered}
 use Rattle.netlist.specs.Netlist.{gateLine}
-use Rattle.netlist.specs.Questions.{railsOf, orderOf}
-use Rattle.netlist.proofs.Opened.{Opened, opened, few-contacts, outputs-wired, lamp-wired}
+use Rattle.wiring.proofs.Opened.{Opened, opened, few-contacts, outputs-wired, lamp-wired}
+use Rattle.drive.specs.declared.Rails.the-variants.{Driven}
+use Rattle.drive.specs.declared.Holds.the-variants.{Ordered}
+use Rattle.drive.specs.Questions.{railsOf, orderOf}
 use Rattle.simulation.proofs.Answers.{ready, pairs-within}
 use Rattle.simulation.proofs.Outcomes.{unread, undriven, disordered, first-short, second-short, done}
 use Rattle.simulation.proofs.simulate.run.Statement.{statement}

@@ -7,7 +7,8 @@ use mathlib.Core.List.{flatMap}
 use lib.ListN.{length, length-set}
 use Rattle.fields.specs.Bounded.{listed}
 use Rattle.simulation.specs.Run.{shownOf}
-use Rattle.netlist.proofs.Tests.{PairIn, pairs-at}
+use Rattle.netlist.proofs.Sound.{PairIn}
+use Rattle.wiring.proofs.Tests.{pairs-at}
 use Rattle.simulation.proofs.Turns.{paired, pair-more, pairs-done}
 use Rattle.simulation.proofs.simulate.show_pairs.Statement.{statement}
 use Rattle.simulation.proofs.simulate.show_pairs.Tie as tie

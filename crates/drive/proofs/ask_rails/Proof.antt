@@ -1,0 +1,71 @@
+-- `ask_rails` meets its contract. The loop's invariant: each byte passed is 0 or 1.
+use borrow.Author.Needs.{needs}
+use borrow.Author.Tests.{le-leb, lt-leb, eq-eqb, ne-eqb}
+use native.Mathlib.Omega.{arith}
+use Prim.Native.Nat.{_-_, _*_, _≤_}
+use mathlib.Core.Path.{_≡_, refl}
+use mathlib.Core.Bool.{true}
+use lib.ListN.{length}
+use Rattle.fields.specs.Bounded.{all}
+use Rattle.fields.proofs.Bounded.{all-none, all-more, all-not}
+use Rattle.drive.specs.Questions.{isBit}
+use Rattle.drive.proofs.ask_rails.Statement.{statement}
+use Rattle.drive.proofs.ask_rails.Tie as tie
+
+abbrev Inv-loop : tie.InvT-loop
+Inv-loop n rails i₀ i-end i = (i-end ≡ length rails) × (i ≤ i-end) × (all i (isBit rails) ≡ true)
+
+abbrev μ-loop : tie.MeasureT-loop
+μ-loop n rails i₀ i-end i = i-end - i
+
+mul-if1 : tie.Need-mul-if1 Inv-loop μ-loop
+mul-if1 c = search needs
+
+returns : tie.Need-returns Inv-loop μ-loop
+returns c = simp (ne-eqb _ _ (c .if1 .taken))
+
+loop-holds : tie.Need-loop-holds Inv-loop μ-loop
+loop-holds c = (refl, omega arith, all-none _)
+
+shared-slice-read-if2 : tie.Need-shared-slice-read-if2 Inv-loop μ-loop
+shared-slice-read-if2 c = search needs
+
+returns-2 : tie.Need-returns-2 Inv-loop μ-loop
+returns-2 c =
+    let loop = c .before .before .before in
+    let a = loop .before .before .args in
+    simp (eq-eqb _ _ (loop .before .if1 .left), all-not (isBit (a .rails .now)) (2 * a .n) (loop .loop .i) (omega arith) (lt-leb _ _ (c .if2 .taken)))
+
+add-i : tie.Need-add-i Inv-loop μ-loop
+add-i c = search needs
+
+loop-less : tie.Need-loop-less Inv-loop μ-loop
+loop-less c = search needs
+
+loop-again : tie.Need-loop-again Inv-loop μ-loop
+loop-again c =
+    let inv = c .before .before .before .loop .inv in
+    (inv .0, omega arith, all-more _ _ (inv .2) (le-leb _ _ (c .if2 .left)))
+
+returns-3 : tie.Need-returns-3 Inv-loop μ-loop
+returns-3 c =
+    let loop = c .before in
+    let a = loop .before .before .args in
+    let done : loop .loop .i ≡ 2 * a .n = omega arith in
+    simp (eq-eqb _ _ (loop .before .if1 .left), rw done at (loop .loop .inv .2))
+
+pub ask-rails-spec : {M : Type 1} → statement M
+ask-rails-spec =
+    tie.close
+    (tie.spec
+    Inv-loop
+    μ-loop
+    mul-if1
+    returns
+    loop-holds
+    shared-slice-read-if2
+    returns-2
+    add-i
+    loop-less
+    loop-again
+    returns-3)
