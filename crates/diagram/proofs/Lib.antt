@@ -7,8 +7,4 @@ pub mod Words
 pub mod Loops
 pub mod Turns
 pub mod Asked
-pub mod Totals
-pub mod Pairs
-pub mod Applied
-pub mod Promises
 pub mod Ignored

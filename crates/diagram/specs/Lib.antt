@@ -1,5 +1,3 @@
 pub mod Diagram
 pub mod Questions
-pub mod Twins
-pub mod Promises
 pub mod Inner

@@ -61,7 +61,7 @@ inTurn f k w = all k (λ i. leb (f i) (brought f i)) && eqb (brought f k) w
 unfoldable pub numbered : Diagram → Bool
 numbered d = all (d .contacts) (λ l. inTurn (mention d l) (mentions d l) (width d l))
 
--- The answers to 5 and 7; that to 6 says which nodes are alike (specs/Twins.antt).
+-- The answers to 5 and 7; that to 6 says which nodes are alike (crate `twins`).
 abbrev pub rangeOf : Diagram → Range
 rangeOf d = cond (inRange d) Within Outside
 

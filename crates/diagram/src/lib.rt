@@ -1,8 +1,7 @@
-// Quasi-reduced decision diagrams with several outputs: questions 5 to 7 about one, and its outputs at an input.
+// Quasi-reduced decision diagrams with several outputs: questions 5 and 7 about one, and its outputs at an input.
 mod evaluate;
 mod fork;
 mod sound;
-mod twins;
 
 pub use evaluate::word;
 pub use fork::forks;
@@ -11,10 +10,6 @@ pub use sound::Range;
 pub use sound::ask_numbering;
 pub use sound::ask_range;
 pub use sound::width;
-pub use twins::Comparison;
-pub use twins::Pair;
-pub use twins::Twins;
-pub use twins::find_twins;
 
 // A decoded table. Level l has widths[l] nodes, and its edges stand from 16 l on: 16 l + 2 u is the 0-edge of node u,
 // 16 l + 2 u + 1 its 1-edge. Output j starts at node roots[j] of level 0. What lies past the counts is 0.

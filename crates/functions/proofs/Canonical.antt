@@ -11,10 +11,10 @@ use Rattle.fields.specs.Refusals.{firstNo}
 use Rattle.diagram.specs.declared.Diagram.{Diagram}
 use Rattle.diagram.specs.declared.sound.Range.the-variants.{Within, Outside}
 use Rattle.diagram.specs.declared.sound.Numbering.the-variants.{InTurn, OutOfTurn}
-use Rattle.diagram.specs.declared.twins.Twins.the-variants.{Absent, Present}
 use Rattle.diagram.specs.Diagram.{width, Input, path, valueAt}
-use Rattle.diagram.specs.Twins.{firstPair}
 use Rattle.diagram.proofs.Unique.{Reduced}
+use Rattle.twins.specs.declared.Twins.the-variants.{Absent, Present}
+use Rattle.twins.specs.Twins.{firstPair}
 use Rattle.table.specs.Encode.{bytesOf}
 use Rattle.table.specs.Promises.{Accepted}
 use Rattle.table.specs.Table.{diagramOf, diagramIn, diagramRefusal, tableRefusal}

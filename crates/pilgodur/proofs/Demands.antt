@@ -5,7 +5,7 @@ use mathlib.Core.Path.{_≡_, refl}
 use mathlib.Core.List.{List}
 use Rattle.diagram.specs.declared.Diagram.{Diagram}
 use Rattle.fields.proofs.Encoding.{file-is-row, row-is-read}
-use Rattle.diagram.proofs.Promises.{first-twins, no-twins, pairs-counted, all-pairs}
+use Rattle.twins.proofs.Promises.{first-twins, no-twins, pairs-counted, all-pairs}
 use lib.ListN.{length}
 use Rattle.files.proofs.Writing.{refused-writing}
 use Rattle.table.specs.Table.{diagramIn, tableRefusal, readRefusal, readingOr, readingOf}

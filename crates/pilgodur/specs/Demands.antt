@@ -7,7 +7,7 @@ use Prim.Native.Nat.{ℕ, suc}
 use mathlib.Core.Path.{_≡_}
 use mathlib.Core.List.{List}
 use Rattle.fields.specs.Promises.{FileIsRow, RowIsRead}
-use Rattle.diagram.specs.Promises.{FirstTwins, NoTwins, PairsCounted, AllPairs}
+use Rattle.twins.specs.Promises.{FirstTwins, NoTwins, PairsCounted, AllPairs}
 use Rattle.table.specs.Promises.{TableWithoutNotes}
 use Rattle.table.specs.Table.{readingOf}
 use Rattle.wiring.specs.Promises.{NetlistWithoutNotes}

@@ -15,10 +15,10 @@ use Rattle.diagram.specs.declared.Diagram.{Diagram}
 use Rattle.table.specs.declared.fit.Outputs.the-variants.{Listed}
 use Rattle.diagram.specs.declared.sound.Range.the-variants.{Within, Outside}
 use Rattle.diagram.specs.declared.sound.Numbering.the-variants.{InTurn, OutOfTurn}
-use Rattle.diagram.specs.declared.twins.Twins.the-variants.{Absent, Present}
 use Rattle.diagram.specs.Questions.{Sized, inRange, distinct, numbered}
-use Rattle.diagram.specs.Twins.{firstPair}
 use Rattle.diagram.proofs.Unique.{Reduced}
+use Rattle.twins.specs.declared.Twins.the-variants.{Absent, Present}
+use Rattle.twins.specs.Twins.{firstPair}
 use Rattle.table.specs.Table.{outputsIn, areLevels, diagramIn, rangeNumber, twinsNumber, numberingNumber, fieldsRefusal, diagramRefusal, tableRefusal}
 use Rattle.table.proofs.Shaped.{shaped, sized}
 

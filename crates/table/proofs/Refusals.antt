@@ -13,9 +13,9 @@ use Rattle.table.specs.declared.fit.Outputs.{Outputs}
 use Rattle.table.specs.declared.fit.Levels.{Levels}
 use Rattle.diagram.specs.declared.sound.Range.{Range}
 use Rattle.diagram.specs.declared.sound.Numbering.{Numbering}
-use Rattle.diagram.specs.declared.twins.Twins.{Twins}
 use Rattle.diagram.specs.Questions.{rangeOf, numberingOf}
-use Rattle.diagram.specs.Twins.{twinsOf}
+use Rattle.twins.specs.declared.Twins.{Twins}
+use Rattle.twins.specs.Twins.{twinsOf}
 use Rattle.table.specs.Table.{outputsIn, outputsNumber, levelsIn, levelsNumber, rangeNumber, twinsNumber, numberingNumber, fieldsRefusal, diagramRefusal}
 
 pub fields-by : (file : List ℕ) (a : Framing) (b : Contacts) (c : Outputs) (e : Levels) →

@@ -10,9 +10,9 @@ use Rattle.table.specs.declared.reading.Table.{Table}
 use Rattle.fields.specs.Refusals.{firstNo}
 use Rattle.fields.proofs.Refusals.{first-no}
 use Rattle.diagram.specs.declared.Diagram.{Diagram}
-use Rattle.diagram.specs.declared.twins.Twins.the-variants.{Absent}
 use Rattle.diagram.specs.Diagram.{inputOf, wordAt}
-use Rattle.diagram.specs.Twins.{comparisonOf}
+use Rattle.twins.specs.declared.Twins.the-variants.{Absent}
+use Rattle.twins.specs.Twins.{comparisonOf}
 use Rattle.table.specs.Table.{diagramIn, fieldsRefusal, diagramRefusal, tableRefusal, readRefusal, readingOr, readingOf}
 use Rattle.table.specs.Inner.Read.{refusedTable, tableOr, tableOf, comparisonOr, comparisonIn}
 use Rattle.table.proofs.Accepted.{AcceptedTable, accepted}

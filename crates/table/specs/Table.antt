@@ -16,12 +16,12 @@ use Rattle.diagram.specs.declared.sound.Range.{Range}
 use Rattle.diagram.specs.declared.sound.Range.the-variants.{Within, Outside}
 use Rattle.diagram.specs.declared.sound.Numbering.{Numbering}
 use Rattle.diagram.specs.declared.sound.Numbering.the-variants.{InTurn, OutOfTurn}
-use Rattle.diagram.specs.declared.twins.Twins.{Twins}
-use Rattle.diagram.specs.declared.twins.Twins.the-variants.{Absent, Present}
+use Rattle.twins.specs.declared.Twins.{Twins}
+use Rattle.twins.specs.declared.Twins.the-variants.{Absent, Present}
 use Rattle.table.specs.declared.reading.Reading.{Reading}
 use Rattle.diagram.specs.Diagram.{inputOf, wordAt}
 use Rattle.diagram.specs.Questions.{rangeOf, numberingOf}
-use Rattle.diagram.specs.Twins.{twinsOf}
+use Rattle.twins.specs.Twins.{twinsOf}
 
 -- The number of each answer: 0 for yes, and the question's for no.
 abbrev pub outputsNumber : Outputs → ℕ

@@ -3,13 +3,13 @@ use crate::decode;
 use crate::fit;
 use crate::fit::Levels;
 use crate::fit::Outputs;
-use diagram::Comparison;
 use diagram::Diagram;
 use diagram::Numbering;
 use diagram::Range;
-use diagram::Twins;
 use fields::Framing;
 use files::Contacts;
+use twins::Comparison;
+use twins::Twins;
 ghost use mathlib.Core.Path.{_≡_};
 ghost use Prim.Native.Nat.{_≤_};
 ghost use lib.ListN.{length};
@@ -67,7 +67,7 @@ fn asked_of_diagram<'a>(
     let Range::Within = diagram::ask_range(n, widths, edges, m, roots) else {
         return 5;
     };
-    let found = diagram::find_twins(n, widths, edges);
+    let found = twins::find_twins(n, widths, edges);
     let twins = found.twins;
     let Twins::Absent = twins else {
         return 6;
@@ -138,7 +138,7 @@ pub fn find_twins(file: &[u8]) -> Comparison
     let mut edges = [0u8; 192];
     let n = decode::contacts(file);
     decode::lay_levels(file, &mut widths, &mut edges);
-    diagram::find_twins(n, &widths, &edges)
+    twins::find_twins(n, &widths, &edges)
 }
 
 // The word of a table at input a: question 10 after the table's own.

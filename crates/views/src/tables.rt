@@ -1,8 +1,8 @@
 // The number that a table's file gets, what its diagram is where it is accepted, and what is read off at the first inputs.
 use diagram::Diagram;
-use diagram::Twins;
 use text::print;
 use text::spelling;
+use twins::Twins;
 
 pub fn show(file: &[u8]) {
     let table = table::read(file);

@@ -3,9 +3,9 @@ use Prim.Native.Nat.{ℕ, zero, suc}
 use mathlib.Core.List.{List}
 use lib.ListN.{replicate}
 use Rattle.diagram.specs.declared.Diagram.{Diagram}
-use Rattle.diagram.specs.declared.twins.Comparison.{Comparison}
-use Rattle.diagram.specs.declared.twins.Twins.the-variants.{Absent}
-use Rattle.diagram.specs.Twins.{comparisonOf}
+use Rattle.twins.specs.declared.Comparison.{Comparison}
+use Rattle.twins.specs.declared.Twins.the-variants.{Absent}
+use Rattle.twins.specs.Twins.{comparisonOf}
 use Rattle.table.specs.declared.reading.Table.{Table}
 use Rattle.table.specs.Table.{diagramIn, fieldsRefusal, tableRefusal}
 

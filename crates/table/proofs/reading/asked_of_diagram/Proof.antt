@@ -4,9 +4,9 @@ use mathlib.Core.Path.{refl, sym, ap, _∙_}
 use Rattle.fields.specs.Refusals.{firstNo}
 use Rattle.diagram.specs.declared.sound.Range.the-variants.{Within, Outside}
 use Rattle.diagram.specs.declared.sound.Numbering.the-variants.{InTurn, OutOfTurn}
-use Rattle.diagram.specs.declared.twins.Twins.{Twins}
-use Rattle.diagram.specs.declared.twins.Twins.the-variants.{Absent, Present}
-use Rattle.diagram.specs.declared.twins.Comparison.{Comparison}
+use Rattle.twins.specs.declared.Twins.{Twins}
+use Rattle.twins.specs.declared.Twins.the-variants.{Absent, Present}
+use Rattle.twins.specs.declared.Comparison.{Comparison}
 use Rattle.table.proofs.Refusals.{diagram-by}
 use Rattle.table.proofs.reading.asked_of_diagram.Statement.{statement}
 use Rattle.table.proofs.reading.asked_of_diagram.Tie as tie

@@ -3,9 +3,9 @@ ghost use mathlib.Core.Path.{_≡_};
 ghost use Prim.Native.Nat.{_+_, _*_, _<_};
 ghost use lib.ListN.{length};
 ghost use Rattle.fields.specs.Bounded.{least};
 ghost use Rattle.diagram.specs.Inner.Bytes.{isLike};
 ghost use Rattle.diagram.specs.Inner.Lent.{Fit, WithLevels};
-ghost use Rattle.diagram.specs.Twins.{comparisonOf};
+ghost use Rattle.twins.specs.Twins.{comparisonOf};
 
 // Two nodes of one level, the later with the greater number.
 pub struct Pair {

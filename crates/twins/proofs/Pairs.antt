@@ -11,15 +11,15 @@ use lib.ListN.{getD}
 use Rattle.fields.specs.Bounded.{all, any, least}
 use Rattle.fields.proofs.Bounded.{any-at, any-not}
 use Rattle.fields.proofs.Least.{First, least-is, least-below, least-past}
 use Rattle.diagram.specs.declared.Diagram.{Diagram}
-use Rattle.diagram.specs.declared.twins.Twins.the-variants.{Absent, Present}
 use Rattle.diagram.specs.Diagram.{width, edgeAt}
 use Rattle.diagram.specs.Inner.Bytes.{isLike}
 use Rattle.diagram.specs.Inner.Lent.{HasLevels}
 use Rattle.diagram.specs.Questions.{alike, distinct}
-use Rattle.diagram.specs.Twins.{repeats, firstPair, total, pairsAmong, pairsBefore, comparisonOf}
 use Rattle.diagram.proofs.Asked.{width-is}
-use Rattle.diagram.proofs.Totals.{total-more}
+use Rattle.twins.specs.declared.Twins.the-variants.{Absent, Present}
+use Rattle.twins.specs.Twins.{repeats, firstPair, total, pairsAmong, pairsBefore, comparisonOf}
+use Rattle.twins.proofs.Totals.{total-more}
 
 -- Where none of the numbers below k passes, nor k, none below k + 1 does.
 pub none-more : {p : ℕ → Bool} (k : ℕ) → ((i : ℕ) → i < k → p i ≡ false) → p k ≡ false → (i : ℕ) → i < k + 1 → p i ≡ false

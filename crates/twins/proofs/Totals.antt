@@ -5,7 +5,7 @@ use native.Mathlib.Numerals.{add-one}
 use native.Mathlib.Omega.{arith}
 use mathlib.Core.Path.{_≡_, refl, ap, ap₂}
 use mathlib.Core.Logic.{⊎-elim}
-use Rattle.diagram.specs.Twins.{total, pairsAmong}
+use Rattle.twins.specs.Twins.{total, pairsAmong}
 
 pub total-more : (k : ℕ) (f : ℕ → ℕ) → total (k + 1) f ≡ total k f + f k
 unfolding total

@@ -2,13 +2,13 @@
 use Prim.Native.Nat.{ℕ, zero, suc, _+_}
 use mathlib.Core.Bool.{Bool, cond}
 use Rattle.fields.specs.Bounded.{any, least}
 use Rattle.diagram.specs.declared.Diagram.{Diagram}
-use Rattle.diagram.specs.declared.twins.Pair.{Pair}
-use Rattle.diagram.specs.declared.twins.Twins.{Twins}
-use Rattle.diagram.specs.declared.twins.Twins.the-variants.{Absent, Present}
-use Rattle.diagram.specs.declared.twins.Comparison.{Comparison}
 use Rattle.diagram.specs.Diagram.{width}
 use Rattle.diagram.specs.Questions.{alike, distinct}
+use Rattle.twins.specs.declared.Pair.{Pair}
+use Rattle.twins.specs.declared.Twins.{Twins}
+use Rattle.twins.specs.declared.Twins.the-variants.{Absent, Present}
+use Rattle.twins.specs.declared.Comparison.{Comparison}
 
 -- Whether node v of level l is like a node before it.
 abbrev pub repeats : Diagram → ℕ → ℕ → Bool

@@ -4,11 +4,11 @@ use mathlib.Core.Path.{_≡_, refl}
 use mathlib.Core.List.{List, [], _∷_, _++_}
 use lib.ListN.{replicate}
 use Rattle.fields.specs.Bounded.{all, any, leastFrom}
 use Rattle.diagram.specs.declared.Diagram.{Diagram}
-use Rattle.diagram.specs.declared.twins.Twins.the-variants.{Absent, Present}
 use Rattle.diagram.specs.Diagram.{width, edgeAt}
 use Rattle.diagram.specs.Questions.{distinct}
-use Rattle.diagram.specs.Twins.{firstPair, total, comparisonOf}
+use Rattle.twins.specs.declared.Twins.the-variants.{Absent, Present}
+use Rattle.twins.specs.Twins.{firstPair, total, comparisonOf}
 
 -- Three levels of two, four and three nodes, with these edges.
 abbrev levels : List ℕ → List ℕ → List ℕ → Diagram

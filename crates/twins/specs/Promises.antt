@@ -4,12 +4,12 @@ use Prim.Native.Nat.{ℕ, _*_, _/_, _-_, _<_}
 use mathlib.Core.Path.{_≡_}
 use mathlib.Core.Bool.{Bool, true, false, not, _&&_, _||_}
 use lib.Dec.{ltb, eqb}
 use Rattle.diagram.specs.declared.Diagram.{Diagram}
-use Rattle.diagram.specs.declared.twins.Pair.{Pair}
-use Rattle.diagram.specs.declared.twins.Twins.{Twins}
-use Rattle.diagram.specs.declared.twins.Twins.the-variants.{Absent, Present}
 use Rattle.diagram.specs.Diagram.{width, bit, edge}
-use Rattle.diagram.specs.Twins.{twinsOf, total, pairsAmong, comparisonOf}
+use Rattle.twins.specs.declared.Pair.{Pair}
+use Rattle.twins.specs.declared.Twins.{Twins}
+use Rattle.twins.specs.declared.Twins.the-variants.{Absent, Present}
+use Rattle.twins.specs.Twins.{twinsOf, total, pairsAmong, comparisonOf}
 
 -- Two alike nodes: of one level, with the same edges.
 pub record AreAlike (d : Diagram) (p : Pair) : Type 0 where

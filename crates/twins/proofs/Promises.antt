@@ -8,16 +8,16 @@ use borrow.Author.Tests.{lt-ltb, le-ltb, eqb-true, eq-eqb, ne-eqb, not-false}
 use lib.Dec.{ltb, eqb}
 use Rattle.fields.proofs.Bounded.{and-left, and-right, any-at}
 use Rattle.fields.proofs.Least.{First, least-first}
 use Rattle.diagram.specs.declared.Diagram.{Diagram}
-use Rattle.diagram.specs.declared.twins.Pair.{Pair}
-use Rattle.diagram.specs.declared.twins.Twins.the-variants.{Absent, Present}
 use Rattle.diagram.specs.Diagram.{width, bit, edge}
 use Rattle.diagram.specs.Questions.{alike, distinct}
-use Rattle.diagram.specs.Twins.{repeats, firstPair, twinsOf, total, pairsAmong, pairsBefore, comparedTo}
-use Rattle.diagram.specs.Promises.{AreAlike, isBefore, FirstTwins, NoTwins, isUpTo, PairsCounted, AllPairs}
 use Rattle.diagram.proofs.Paths.{unlike}
-use Rattle.diagram.proofs.Pairs.{hasAlike, distinct-is}
-use Rattle.diagram.proofs.Totals.{total-same, total-upTo, ones, zeros, twice}
+use Rattle.twins.specs.declared.Pair.{Pair}
+use Rattle.twins.specs.declared.Twins.the-variants.{Absent, Present}
+use Rattle.twins.specs.Twins.{repeats, firstPair, twinsOf, total, pairsAmong, pairsBefore, comparedTo}
+use Rattle.twins.specs.Promises.{AreAlike, isBefore, FirstTwins, NoTwins, isUpTo, PairsCounted, AllPairs}
+use Rattle.twins.proofs.Pairs.{hasAlike, distinct-is}
+use Rattle.twins.proofs.Totals.{total-same, total-upTo, ones, zeros, twice}
 
 not-below : (a b : ℕ) → (a < b → ⊥) → ltb a b ≡ false
 not-below a b h = le-ltb a b (le-of-suc-le-suc (lt-of-not-le h))

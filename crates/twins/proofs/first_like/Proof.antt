@@ -1,4 +1,4 @@
--- `twins::first_like` meets its contract. The loop's invariant: the nodes passed differ from node v in an edge.
+-- `first_like` meets its contract. The loop's invariant: the nodes passed differ from node v in an edge.
 use borrow.Author.Needs.{needs}
 use borrow.Author.Tests.{eq-eqb, ne-eqb}
 use native.Mathlib.Omega.{arith}
@@ -10,10 +10,10 @@ use mathlib.Core.Bool.{true, false, and-false}
 use mathlib.Core.Logic.{⊎-elim}
 use lib.ListN.{getD}
 use Rattle.fields.proofs.Least.{least-is, least-none}
 use Rattle.diagram.specs.Inner.Bytes.{isLike}
-use Rattle.diagram.proofs.Pairs.{none-more}
-use Rattle.diagram.proofs.twins.first_like.Statement.{statement}
-use Rattle.diagram.proofs.twins.first_like.Tie as tie
+use Rattle.twins.proofs.Pairs.{none-more}
+use Rattle.twins.proofs.first_like.Statement.{statement}
+use Rattle.twins.proofs.first_like.Tie as tie
 
 -- Two nodes are alike if both edges are, and differ if one does.
 module _ (edges : List ℕ) (from v u : ℕ) where

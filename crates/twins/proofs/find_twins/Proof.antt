@@ -1,4 +1,4 @@
--- `twins::find_twins` meets its contract. The loops' invariants: the levels passed have no alike nodes, nor have the nodes passed, and
+-- `find_twins` meets its contract. The loops' invariants: the levels passed have no alike nodes, nor have the nodes passed, and
 -- the pairs are counted.
 use borrow.Author.Needs.{needs}
 use native.Mathlib.Omega.{arith}
@@ -6,10 +6,10 @@ use native.Mathlib.Nat.{le-antisymm}
 use Prim.Native.Nat.{_+_, _*_, _-_, _≤_}
 use mathlib.Core.Path.{_≡_, refl, _∙_}
 use lib.ListN.{getD}
 use Rattle.diagram.specs.Inner.Lent.{WithLevels}
-use Rattle.diagram.proofs.Pairs.{Passed, passed-none, passed-node, passed-level, passed-found, passed-all, width-lent, lent-first, lent-none}
-use Rattle.diagram.proofs.twins.find_twins.Statement.{statement}
-use Rattle.diagram.proofs.twins.find_twins.Tie as tie
+use Rattle.twins.proofs.Pairs.{Passed, passed-none, passed-node, passed-level, passed-found, passed-all, width-lent, lent-first, lent-none}
+use Rattle.twins.proofs.find_twins.Statement.{statement}
+use Rattle.twins.proofs.find_twins.Tie as tie
 
 abbrev Inv-loop2 : tie.InvT-loop2
 Inv-loop2 n widths edges compared₀ level later₀ later-end compared later =

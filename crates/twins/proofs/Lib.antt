@@ -1,0 +1,4 @@
+pub mod Totals
+pub mod Pairs
+pub mod Promises
+pub mod Applied
