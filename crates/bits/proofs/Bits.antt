@@ -1,14 +1,16 @@
 -- The bits of batches: of AND, of OR, of a batch against all ones and of two batches that agree.
-use Prim.Native.Nat.{ℕ, zero, suc, _/_, _%_, _^_, _<_, min, max}
-use native.Mathlib.Nat.{zero-div}
+use Prim.Native.Nat.{ℕ, zero, suc, _*_, _/_, _%_, _^_, _<_, min, max}
+use native.Mathlib.Nat.{zero-div, one-mul}
+use native.Mathlib.Numerals.{one-add}
 use native.Mathlib.Omega.{arith}
 use mathlib.Core.Path.{_≡_, refl, sym, ap, ap₂, _∙_}
-use mathlib.Core.Bool.{Bool, true, false, not, _||_, Bool·not-not}
+use mathlib.Core.Bool.{Bool, true, false, not, _&&_, _||_, Bool·not-not}
 use mathlib.Core.List.{List}
 use borrow.Author.Tests.{eqb-true}
 use lib.Bits.{bitAnd, bitOr, bitXor, differ, and-step, or-step, xor-step, and-shr, or-shr, xor-shr}
 use lib.Dec.{eqb}
 use lib.ListN.{getD, List·getD-map}
+use lib.Pow.{shl-exact, shr-shr}
 use Rattle.fields.specs.Bounded.{all}
 use Rattle.fields.proofs.Bounded.{all-at}
 use Rattle.diagram.specs.Diagram.{bit}
@@ -79,3 +81,22 @@ bit-either true true = refl
 bit-either true false = refl
 bit-either false true = refl
 bit-either false false = refl
+
+pub bit-both : (a b : Bool) → min (bit a) (bit b) ≡ bit (a && b)
+bit-both true true = refl
+bit-both true false = refl
+bit-both false true = refl
+bit-both false false = refl
+
+-- Numbers with the same bits are the same.
+pub bits-same : (w x y : ℕ) → x < 2 ^ w → y < 2 ^ w → ((i : ℕ) → i < w → bitOf i x ≡ bitOf i y) → x ≡ y
+bits-same zero x y hx hy e = omega arith
+bits-same (suc w) x y hx hy e =
+    let high = bits-same w (x / 2) (y / 2) (omega arith) (omega arith) (λ i l.
+    ap (λ (k : ℕ). k % 2) (shr-shr x 1 i) ∙ rw (one-add i) (e (suc i) (omega arith))
+    ∙ sym (ap (λ (k : ℕ). k % 2) (shr-shr y 1 i ∙ ap (λ (k : ℕ). y / 2 ^ k) (one-add i)))) in
+    omega (arith, e 0 (omega arith))
+
+-- A power of two by a shift.
+pub bits-of : (left : ℕ) → left < 64 → 1 * 2 ^ left % 2 ^ 64 ≡ 2 ^ left
+bits-of left h = shl-exact 1 left 64 (omega arith) (omega arith) ∙ one-mul (2 ^ left)

@@ -1,8 +1,7 @@
 -- Blocks of truth tables are the same functions where their bits agree, and where the words or parts of words that hold them do.
 use Prim.Native.Nat.{ℕ, zero, suc, _+_, _-_, _*_, _/_, _%_, _^_, _≤_, _<_}
-use native.Mathlib.Nat.{add-zero, one-mul, mod-lt}
+use native.Mathlib.Nat.{add-zero, mod-lt}
 use native.Mathlib.Decide.{decLt}
-use native.Mathlib.Numerals.{one-add}
 use native.Mathlib.Omega.{arith}
 use mathlib.Core.Path.{_≡_, refl, sym, ap, ap₂, _∙_}
 use mathlib.Core.Logic.{by-cases}
@@ -11,10 +10,11 @@ use mathlib.Core.List.{List}
 use borrow.Author.Tests.{eqb-true, eq-eqb}
 use lib.Dec.{eqb}
 use lib.ListN.{length, getD}
-use lib.Pow.{pow-pos, pow-lt, pow-add, shl-exact, shr-shr, field, mod-mod-pow}
+use lib.Pow.{pow-pos, pow-lt, pow-add, shr-shr, field, mod-mod-pow}
 use Rattle.fields.specs.Bounded.{all}
 use Rattle.fields.proofs.Bounded.{all-at, all-of}
 use Rattle.bits.specs.Inner.Bits.{bitOf}
+use Rattle.bits.proofs.Bits.{bits-same, bits-of}
 use Rattle.functions.specs.Functions.{Function, constant, choice, half, same}
 use Rattle.functions.proofs.Places.{same-true, same-refl}
 use Rattle.canonical.specs.Inner.Blocks.{bitIn, blockAt, Block}
@@ -55,15 +55,6 @@ module _ (ws : List ℕ) where
       ap (bitIn ws) (omega arith)
       ∙ blocks-bits left (a + 2 ^ left) (b + 2 ^ left) (halves e .1) (i - 2 ^ left) (omega arith)
       ∙ ap (bitIn ws) (omega arith))
-
--- Numbers with the same bits are the same.
-bits-same : (w x y : ℕ) → x < 2 ^ w → y < 2 ^ w → ((i : ℕ) → i < w → bitOf i x ≡ bitOf i y) → x ≡ y
-bits-same zero x y hx hy e = omega arith
-bits-same (suc w) x y hx hy e =
-    let high = bits-same w (x / 2) (y / 2) (omega arith) (omega arith) (λ i l.
-    ap (λ (k : ℕ). k % 2) (shr-shr x 1 i) ∙ rw (one-add i) (e (suc i) (omega arith))
-    ∙ sym (ap (λ (k : ℕ). k % 2) (shr-shr y 1 i ∙ ap (λ (k : ℕ). y / 2 ^ k) (one-add i)))) in
-    omega (arith, e 0 (omega arith))
 
 -- The bits of a part of a word.
 part-bit : (w s k i : ℕ) → i < k → bitOf i (w / 2 ^ s % 2 ^ k) ≡ bitOf (s + i) w
@@ -133,10 +124,6 @@ module _ (ws : List ℕ) (words : (i : ℕ) → getD ws i 0 < 2 ^ 64) (k a b : �
       (λ e. all-of (agree ws a b) (2 ^ k) (λ i l. eq-eqb _ _
       (bits-same 64 (getD ws (a / 64 + i) 0) (getD ws (b / 64 + i) 0) (words _) (words _) (λ j h.
       sym (word-bit ws a i j ea h) ∙ blocks-bits ws (k + 6) a b e (64 * i + j) (omega arith) ∙ word-bit ws b i j eb h))))
-
--- A block's length by a shift.
-pub bits-of : (left : ℕ) → left < 64 → 1 * 2 ^ left % 2 ^ 64 ≡ 2 ^ left
-bits-of left h = shl-exact 1 left 64 (omega arith) (omega arith) ∙ one-mul (2 ^ left)
 
 pub bits-few : (left : ℕ) → left < 6 → 2 ^ left < 64
 bits-few left h = pow-lt h

@@ -6,15 +6,36 @@ use mathlib.Core.Bool.{Bool, true, false, cond}
 use mathlib.Core.List.{List}
 use lib.ListN.{length, take}
 use lib.Seq.{sets}
+use Rattle.diagram.specs.Diagram.{Input}
 use Rattle.files.specs.declared.room.Room.the-variants.{Enough, Short}
 use Rattle.files.specs.Room.{Writing, roomOf, writingOf}
 use Rattle.files.proofs.Buffers.{enough, sets-over, taken-back}
 use Rattle.files.proofs.Writing.{refused-before, too-short, written-whole}
 use Rattle.table.specs.Encode.{bytesOf}
-use Rattle.functions.specs.Functions.{Function, canonical, isNarrow}
+use Rattle.functions.specs.Functions.{Function, functionsOf, canonical, isNarrow}
 use Rattle.functions.proofs.Agreeing.{narrow-same, table-same}
+use Rattle.functions.proofs.Trees.{functions-same}
 use Rattle.canonical.specs.declared.layout.Laid.the-variants.{Whole, Wide}
 use Rattle.canonical.specs.Service.{laidOf, laidNumber, tablingOf}
+
+-- Question 17's number.
+abbrev pub narrowNumber : Bool → ℕ
+narrowNumber b = cond b 0 17
+
+pub laid-number : (n m : ℕ) (f : ℕ → Function) → laidNumber (laidOf n m f) ≡ narrowNumber (isNarrow n m f)
+laid-number n m f = go (isNarrow n m f)
+  where
+    go : (b : Bool) → laidNumber (cond b (Whole (length (bytesOf (canonical n m f)))) Wide) ≡ narrowNumber b
+    go true = refl
+    go false = refl
+
+pub narrow-if : (b : Bool) → narrowNumber b ≡ 0 → b ≡ true
+narrow-if true e = refl
+narrow-if false e = absurd (omega arith)
+
+pub wide-if : (b : Bool) → narrowNumber b ≡ 17 → b ≡ false
+wide-if true e = absurd (omega arith)
+wide-if false e = refl
 
 module _ (n m : ℕ) (f : ℕ → Function) where
   abbrev bytes : List ℕ
@@ -67,3 +88,10 @@ unfolding tablingOf
 tabling-same n m f g buffer agree =
     ap₂ (λ (b : Bool) (bytes : List ℕ). writingOf (laidNumber (cond b (Whole (length bytes)) Wide)) bytes buffer)
     (narrow-same n m f g agree) (table-same n m f g agree)
+
+-- Values that agree, and counts that are the same.
+pub tabling-agrees : (n n' m m' : ℕ) (v w : ℕ → Input → ℕ) (buffer : List ℕ) → n ≡ n' → m ≡ m' →
+    ((j : ℕ) → j < m → (x : Input) → v j x ≡ w j x) → tablingOf n m (functionsOf n v) buffer ≡ tablingOf n' m' (functionsOf n' w) buffer
+tabling-agrees n n' m m' v w buffer contacts outputs agree =
+    tabling-same n m (functionsOf n v) (functionsOf n w) buffer (functions-same n m v w agree)
+    ∙ ap₂ (λ (n m : ℕ). tablingOf n m (functionsOf n w) buffer) contacts outputs

@@ -25,6 +25,10 @@ module _ (p : ℕ → Bool) where
   unfolding all
   all-more k h e = rw (add-one k) (ap₂ _&&_ h e)
 
+  pub all-last : (k : ℕ) → all (k + 1) p ≡ (all k p && p k)
+  unfolding all
+  all-last k = rw (add-one k) refl
+
   pub all-at : (n : ℕ) → all n p ≡ true → (i : ℕ) → i < n → p i ≡ true
   unfolding all
   all-at zero h i l = absurd (not-suc-le-zero l)
@@ -52,9 +56,24 @@ module _ (p : ℕ → Bool) where
       rw (add-suc k m)
       (ap (λ (b : Bool). b && p (k + m)) (all-add k m) ∙ and-assoc (all k p) (all m (λ i. p (k + i))) (p (k + m)))
 
+  pub all-found : (n : ℕ) → all n p ≡ false → (i : ℕ) × (i < n) × (p i ≡ false)
+  unfolding all
+  all-found zero e = absurd (let z : _≡_ {A = ℕ} 0 1 = cc in omega arith)
+  all-found (suc n) e = go (all n p) (p n) refl refl e (all-found n)
+    where
+      go : (a b : Bool) → all n p ≡ a → p n ≡ b → (a && b) ≡ false →
+          (all n p ≡ false → (i : ℕ) × (i < n) × (p i ≡ false)) → (i : ℕ) × (i < suc n) × (p i ≡ false)
+      go false b ea eb e ih = let r = ih ea in (r .0, omega arith, r .2)
+      go true false ea eb e ih = (n, omega arith, eb)
+      go true true ea eb e ih = absurd (let z : _≡_ {A = ℕ} 0 1 = cc in omega arith)
+
   pub any-none : any 0 p ≡ false
   unfolding any
   any-none = refl
+
+  pub any-last : (k : ℕ) → any (k + 1) p ≡ (any k p || p k)
+  unfolding any
+  any-last k = rw (add-one k) refl
 
   pub any-more : (k : ℕ) → any k p ≡ false → p k ≡ false → any (k + 1) p ≡ false
   unfolding any
@@ -73,6 +92,13 @@ module _ (p : ℕ → Bool) where
   any-not zero h = refl
   any-not (suc n) h = ap₂ _||_ (any-not n (λ i l. h i (omega arith))) (h n (omega arith))
 
+  pub none-at : (n : ℕ) → any n p ≡ false → (i : ℕ) → i < n → p i ≡ false
+  none-at n e i l = go (p i) refl
+    where
+      go : (b : Bool) → p i ≡ b → p i ≡ false
+      go true t = absurd (let f = sym e ∙ any-at n i l t in let z : _≡_ {A = ℕ} 0 1 = cc in omega arith)
+      go false t = t
+
   pub any-found : (n : ℕ) → any n p ≡ true → (i : ℕ) × (i < n) × (p i ≡ true)
   unfolding any
   any-found zero e = absurd (let z : _≡_ {A = ℕ} 0 1 = cc in omega arith)
@@ -88,3 +114,8 @@ pub all-agree : (n : ℕ) (p q : ℕ → Bool) → ((i : ℕ) → i < n → p i 
 unfolding all
 all-agree zero p q h = refl
 all-agree (suc n) p q h = ap₂ _&&_ (all-agree n p q (λ i l. h i (omega arith))) (h n (omega arith))
+
+pub any-agree : (n : ℕ) (p q : ℕ → Bool) → ((i : ℕ) → i < n → p i ≡ q i) → any n p ≡ any n q
+unfolding any
+any-agree zero p q h = refl
+any-agree (suc n) p q h = ap₂ _||_ (any-agree n p q (λ i l. h i (omega arith))) (h n (omega arith))

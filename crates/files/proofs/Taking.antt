@@ -56,31 +56,31 @@ module _ (file : List ℕ) (at : ℕ) where
   goes-on End e o = absurd (⊎-elim (λ z. omega arith) (λ z. omega arith) o)
   goes-on Cut e o = sym (ap (endsWithin 0) (walk file at e))
 
--- A field past k others.
-module _ (file : List ℕ) (k : ℕ) {at : ℕ} (start : fieldsFrom file at ≡ behind k (fieldsOf file)) {t : Taken} (h : Takes file at t) where
-  pub field-taken : itemOf file (t .field) ≡ itemIn (fieldsOf file .items) k
-  field-taken = h .field ∙ ap (λ (fs : Fields). itemIn (fs .items) 0) start ∙ item-at (fieldsOf file .items) k
+-- A field past the first k of some fields.
+module _ (file : List ℕ) (fs : Fields) (k : ℕ) {at : ℕ} (start : fieldsFrom file at ≡ behind k fs) {t : Taken} (h : Takes file at t) where
+  pub field-taken : itemOf file (t .field) ≡ itemIn (fs .items) k
+  field-taken = h .field ∙ ap (λ (fs : Fields). itemIn (fs .items) 0) start ∙ item-at (fs .items) k
 
-  pub walked-on : fieldsFrom file (t .past) ≡ behind (k + 1) (fieldsOf file)
+  pub walked-on : fieldsFrom file (t .past) ≡ behind (k + 1) fs
   walked-on =
       h .past ∙ ap (behind 1) start
-      ∙ ap (λ (is : List Item). record { items = is; framing = fieldsOf file .framing }) (drop-drop 1 k (fieldsOf file .items))
+      ∙ ap (λ (is : List Item). record { items = is; framing = fs .framing }) (drop-drop 1 k (fs .items))
 
-  found-more : t .found ≡ leb (k + 1) (length (fieldsOf file .items))
+  pub found-more : t .found ≡ leb (k + 1) (length (fs .items))
   found-more =
-      h .found ∙ ap (λ (fs : Fields). leb 1 (length (fs .items))) start ∙ ap (leb 1) (length-drop k (fieldsOf file .items))
-      ∙ counted (leb (k + 1) (length (fieldsOf file .items))) refl
+      h .found ∙ ap (λ (fs : Fields). leb 1 (length (fs .items))) start ∙ ap (leb 1) (length-drop k (fs .items))
+      ∙ counted (leb (k + 1) (length (fs .items))) refl
     where
       n : ℕ
-      n = length (fieldsOf file .items) - k
+      n = length (fs .items) - k
 
-      counted : (b : Bool) → leb (k + 1) (length (fieldsOf file .items)) ≡ b →
-          leb 1 (length (fieldsOf file .items) - k) ≡ leb (k + 1) (length (fieldsOf file .items))
-      counted true e = le-leb 1 n (omega (arith, leb-true (k + 1) (length (fieldsOf file .items)) e)) ∙ sym e
-      counted false e = lt-leb 1 n (omega (arith, leb-false (k + 1) (length (fieldsOf file .items)) e)) ∙ sym e
+      counted : (b : Bool) → leb (k + 1) (length (fs .items)) ≡ b →
+          leb 1 (length (fs .items) - k) ≡ leb (k + 1) (length (fs .items))
+      counted true e = le-leb 1 n (omega (arith, leb-true (k + 1) (length (fs .items)) e)) ∙ sym e
+      counted false e = lt-leb 1 n (omega (arith, leb-false (k + 1) (length (fs .items)) e)) ∙ sym e
 
 -- What is left past k fields ends there if the file ends within k.
-ends-past : (k : ℕ) (fs : Fields) → endsWithin 0 (behind k fs) ≡ endsWithin k fs
+pub ends-past : (k : ℕ) (fs : Fields) → endsWithin 0 (behind k fs) ≡ endsWithin k fs
 ends-past k fs =
     let n = length (fs .items) in
     ap (_&&_ (eqb (framingNumber (fs .framing)) 0)) (ap (λ (m : ℕ). leb m 0) (length-drop k (fs .items)) ∙ counted n (leb n k) refl)
@@ -94,16 +94,16 @@ pub opened-by : (file : List ℕ) {a b c d : Taken} {ends : Bool} → Takes file
     Opens file (record { first = a .field; second = b .field; third = c .field; fourth = d .field; four = d .found; ends = ends })
 opened-by file a b c d e =
     let none = from-start file refl in
-    let one = walked-on file 0 none a in
-    let two = walked-on file 1 one b in
-    let three = walked-on file 2 two c in
+    let one = walked-on file (fieldsOf file) 0 none a in
+    let two = walked-on file (fieldsOf file) 1 one b in
+    let three = walked-on file (fieldsOf file) 2 two c in
     record {
-      first = field-taken file 0 none a;
-      second = field-taken file 1 one b;
-      third = field-taken file 2 two c;
-      fourth = field-taken file 3 three d;
-      four = found-more file 3 three d;
-      ends = e ∙ ap (endsWithin 0) (walked-on file 3 three d) ∙ ends-past 4 (fieldsOf file);
+      first = field-taken file (fieldsOf file) 0 none a;
+      second = field-taken file (fieldsOf file) 1 one b;
+      third = field-taken file (fieldsOf file) 2 two c;
+      fourth = field-taken file (fieldsOf file) 3 three d;
+      four = found-more file (fieldsOf file) 3 three d;
+      ends = e ∙ ap (endsWithin 0) (walked-on file (fieldsOf file) 3 three d) ∙ ends-past 4 (fieldsOf file);
     }
 
 -- There are at most three fields exactly if there is no fourth.

@@ -15,6 +15,7 @@ pub use room::ask_room;
 pub use room::refused;
 pub use row::Row;
 pub use row::Taken;
+pub use row::ends_at;
 pub use row::first_four;
 pub use row::take;
 pub use write::copy;

@@ -48,7 +48,7 @@ pub fn take(file: &[u8], at: usize) -> Taken
 }
 
 // Whether a file ends at a place: no field is left, nor part of one.
-fn ends_at(file: &[u8], at: usize) -> bool
+pub fn ends_at(file: &[u8], at: usize) -> bool
     ensures { λ r. ⌜ r ≡ endsWithin 0 (fieldsFrom (now (file .entry)) at) ⌝ }
 {
     let cursor = Cursor { at: at };

@@ -31,7 +31,7 @@ pub row-room : (n j m room : ℕ) → j < m → m * 2 ^ (n - 6) ≤ room → j *
 row-room n j m room h g = omega (arith, suc-mul j (2 ^ (n - 6)), mul-le-mul-right {m = suc j} {n = m} (2 ^ (n - 6)) h)
 
 -- So many words hold a truth table, and a whole number of them.
-words-enough : (n : ℕ) → (2 ^ n ≤ 64 * 2 ^ (n - 6)) × (64 * 2 ^ (n - 6) % 2 ^ n ≡ 0)
+pub words-enough : (n : ℕ) → (2 ^ n ≤ 64 * 2 ^ (n - 6)) × (64 * 2 ^ (n - 6) % 2 ^ n ≡ 0)
 words-enough n = by-cases (decLe 6 n) many few
   where
     many : 6 ≤ n → (2 ^ n ≤ 64 * 2 ^ (n - 6)) × (64 * 2 ^ (n - 6) % 2 ^ n ≡ 0)

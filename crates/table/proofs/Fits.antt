@@ -39,19 +39,19 @@ first-alone (i ∷ is) = refl
 -- The first two fields of a file as a walk takes them.
 module _ (file : List ℕ) {a : Taken} (s : Takes file 0 a) where
   pub contacts-taken : {r : Contacts} → r ≡ contactsIn (itemOf file (a .field) ∷ []) → contactsIn (fieldsOf file .items) ≡ r
-  contacts-taken e = sym (contacts-first (fieldsOf file .items) e (field-taken file 0 (from-start file refl) s))
+  contacts-taken e = sym (contacts-first (fieldsOf file .items) e (field-taken file (fieldsOf file) 0 (from-start file refl) s))
 
   module _ {b : Taken} (t : Takes file (a .past) b) where
     one : fieldsFrom file (a .past) ≡ behind 1 (fieldsOf file)
-    one = walked-on file 0 (from-start file refl) s
+    one = walked-on file (fieldsOf file) 0 (from-start file refl) s
 
     pub outputs-taken : {r : Outputs} → r ≡ outputsIn (itemOf file (b .field) ∷ []) → outputsIn (drop 1 (fieldsOf file .items)) ≡ r
     outputs-taken e =
-        let second = field-taken file 1 one t ∙ sym (item-at (fieldsOf file .items) 1) in
+        let second = field-taken file (fieldsOf file) 1 one t ∙ sym (item-at (fieldsOf file .items) 1) in
         sym (e ∙ ap (λ (i : Item). outputsIn (i ∷ [])) second ∙ first-alone (drop 1 (fieldsOf file .items)))
 
     pub levels-left : fieldsFrom file (b .past) .items ≡ drop 2 (fieldsOf file .items)
-    levels-left = ap (λ (fs : Fields). fs .items) (walked-on file 1 one t)
+    levels-left = ap (λ (fs : Fields). fs .items) (walked-on file (fieldsOf file) 1 one t)
 
 left : (n k : ℕ) → k < n → n - k ≡ suc (n - (k + 1))
 left n k h = omega arith

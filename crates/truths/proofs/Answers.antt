@@ -1,8 +1,7 @@
 -- The answer to a drawing of good form: question 17 asked of its values, and the same for drawings with the same counts and values.
 use Prim.Native.Nat.{ℕ, _<_}
-use native.Mathlib.Omega.{arith}
-use mathlib.Core.Path.{_≡_, refl, sym, ap, ap₂, _∙_}
-use mathlib.Core.Bool.{Bool, true, false, cond}
+use mathlib.Core.Path.{_≡_, sym, ap, ap₂, _∙_}
+use mathlib.Core.Bool.{Bool, true, false}
 use mathlib.Core.List.{List, [], _∷_}
 use lib.ListN.{length}
 use Rattle.fields.specs.Refusals.{firstNo}
@@ -12,8 +11,8 @@ use Rattle.table.specs.Encode.{bytesOf}
 use Rattle.functions.specs.Functions.{functionsOf, canonical, isNarrow}
 use Rattle.functions.proofs.Agreeing.{narrow-same, table-same}
 use Rattle.functions.proofs.Trees.{functions-same}
-use Rattle.canonical.specs.declared.layout.Laid.the-variants.{Whole, Wide}
 use Rattle.canonical.specs.Service.{laidOf, laidNumber}
+use Rattle.canonical.proofs.Outcomes.{narrowNumber, laid-number, narrow-if, wide-if}
 use Rattle.drawing.specs.Drawing.{Drawing, drawingIn, drawnAt}
 use Rattle.truths.specs.Promises.{WellFormed}
 use Rattle.truths.specs.Service.{functionsIn, tableFor, drawingRefusal}
@@ -21,14 +20,6 @@ use Rattle.truths.specs.Service.{functionsIn, tableFor, drawingRefusal}
 -- Question 17 of a drawing.
 abbrev pub narrow : Drawing → Bool
 narrow d = isNarrow (d .contacts) (length (d .outputs)) (functionsIn d)
-
--- Its number.
-abbrev pub narrowNumber : Bool → ℕ
-narrowNumber b = cond b 0 17
-
-laid-number : (b : Bool) (bytes : ℕ) → laidNumber (cond b (Whole bytes) Wide) ≡ narrowNumber b
-laid-number true bytes = refl
-laid-number false bytes = refl
 
 module _ (file : List ℕ) where
   abbrev seventeen : ℕ
@@ -39,25 +30,18 @@ module _ (file : List ℕ) where
   refusal-laid w = ap (λ (a : ℕ). firstNo (a ∷ seventeen ∷ [])) w ∙ first-last seventeen
 
   pub refusal-is : WellFormed file → drawingRefusal file ≡ narrowNumber (narrow (drawingIn file))
-  refusal-is w = refusal-laid w ∙ laid-number (narrow (drawingIn file)) (length (tableFor (drawingIn file)))
+  refusal-is w =
+      let d = drawingIn file in refusal-laid w ∙ laid-number (d .contacts) (length (d .outputs)) (functionsIn d)
 
   pub well-formed : drawingRefusal file ≡ 0 → WellFormed file
   unfolding drawingRefusal
   well-formed z = first-yes _ _ z .0
 
   pub is-narrow : WellFormed file → drawingRefusal file ≡ 0 → narrow (drawingIn file) ≡ true
-  is-narrow w z = go (narrow (drawingIn file)) (sym (refusal-is w) ∙ z)
-    where
-      go : (b : Bool) → narrowNumber b ≡ 0 → b ≡ true
-      go true e = refl
-      go false e = absurd (omega arith)
+  is-narrow w z = narrow-if (narrow (drawingIn file)) (sym (refusal-is w) ∙ z)
 
   pub is-wide : WellFormed file → drawingRefusal file ≡ 17 → narrow (drawingIn file) ≡ false
-  is-wide w z = go (narrow (drawingIn file)) (sym (refusal-is w) ∙ z)
-    where
-      go : (b : Bool) → narrowNumber b ≡ 17 → b ≡ false
-      go true e = absurd (omega arith)
-      go false e = refl
+  is-wide w z = wide-if (narrow (drawingIn file)) (sym (refusal-is w) ∙ z)
 
 -- Values that agree, and counts that are the same.
 module _ (n m : ℕ) (v : ℕ → Input → ℕ) (e : Drawing) (contacts : n ≡ e .contacts) (outputs : m ≡ length (e .outputs))

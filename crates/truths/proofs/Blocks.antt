@@ -14,7 +14,7 @@ use lib.Pow.{pow-mono, pow-pos, shl-exact, shr-shr, mod-mod-pow}
 use lib.Seq.{getD-set-same, getD-set-other}
 use Rattle.diagram.specs.Diagram.{inputOf}
 use Rattle.bits.specs.Inner.Bits.{bitOf}
-use Rattle.canonical.proofs.Agreement.{bits-of}
+use Rattle.bits.proofs.Bits.{bits-of}
 use Rattle.canonical.proofs.Tabulated.{multiple, half-whole, next-whole}
 use Rattle.truths.specs.Inner.Words.{Holds, WordsFrom, From, Half, Filled, Repeated, Block}
 use Rattle.truths.proofs.Words.{word-of}

@@ -7,9 +7,10 @@ use Rattle.diagram.specs.Diagram.{root, Input}
 use Rattle.table.specs.Table.{diagramIn}
 use Rattle.table.proofs.Accepted.{accepted}
 use Rattle.functions.proofs.Back.{valuesOf, own-narrow, own-table}
+use Rattle.canonical.proofs.Outcomes.{narrowNumber}
 use Rattle.drawing.specs.Drawing.{Drawing, drawingIn, drawnAt}
 use Rattle.truths.specs.Promises.{numberOf, drawingFor, TableGivenBack}
-use Rattle.truths.proofs.Answers.{narrowNumber, refusal-is, narrow-agrees, table-agrees}
+use Rattle.truths.proofs.Answers.{refusal-is, narrow-agrees, table-agrees}
 use Rattle.truths.proofs.Files.{drawing-back, file-formed}
 use Rattle.truths.proofs.Redrawn.{redrawn-value}
 

@@ -10,10 +10,11 @@ use Rattle.files.specs.Room.{writingOf}
 use Rattle.table.specs.Table.{diagramIn}
 use Rattle.functions.proofs.Canonical.{canonical-accepted, canonical-contacts, canonical-outputs, canonical-value}
 use Rattle.functions.proofs.Wide.{wide, not-narrow}
+use Rattle.canonical.proofs.Outcomes.{narrowNumber}
 use Rattle.drawing.specs.Drawing.{drawingIn, drawnAt}
 use Rattle.truths.specs.Promises.{TableOfDrawing, OneTable, SeventeenIfWide}
 use Rattle.truths.specs.Service.{tableFor, fromDrawingOf}
-use Rattle.truths.proofs.Answers.{narrowNumber, refusal-is, well-formed, is-narrow, is-wide, narrow-agrees, table-agrees}
+use Rattle.truths.proofs.Answers.{refusal-is, well-formed, is-narrow, is-wide, narrow-agrees, table-agrees}
 use Rattle.truths.proofs.Asked.{limited, limited-values}
 
 pub table-of-drawing : TableOfDrawing

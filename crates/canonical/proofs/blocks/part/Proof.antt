@@ -5,7 +5,8 @@ use native.Mathlib.Omega.{arith}
 use mathlib.Core.Path.{ap}
 use lib.ListN.{getD}
 use lib.Pow.{pow-pos}
-use Rattle.canonical.proofs.Agreement.{bits-of, bits-few, part-shift}
+use Rattle.bits.proofs.Bits.{bits-of}
+use Rattle.canonical.proofs.Agreement.{bits-few, part-shift}
 use Rattle.canonical.proofs.blocks.part.Statement.{statement}
 use Rattle.canonical.proofs.blocks.part.Tie as tie
 

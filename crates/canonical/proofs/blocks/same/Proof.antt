@@ -6,7 +6,8 @@ use mathlib.Core.Path.{ap₂, _∙_}
 use lib.Dec.{eqb}
 use lib.ListN.{getD}
 use lib.Pow.{pow-pos}
-use Rattle.canonical.proofs.Agreement.{bits-of, same-by-parts, words-within, same-by-so-many}
+use Rattle.bits.proofs.Bits.{bits-of}
+use Rattle.canonical.proofs.Agreement.{same-by-parts, words-within, same-by-so-many}
 use Rattle.canonical.proofs.blocks.same.Statement.{statement}
 use Rattle.canonical.proofs.blocks.same.Tie as tie
 

@@ -6,7 +6,7 @@ use borrow.Fn.Kinds.{In}
 use borrow.Fn.PlainCycle.{Measures, is, falls, and}
 use native.Mathlib.Omega.{arith}
 use mathlib.Core.Path.{_≡_, ap}
-use Rattle.canonical.proofs.Agreement.{bits-of}
+use Rattle.bits.proofs.Bits.{bits-of}
 use Rattle.truths.proofs.Blocks.{block-filled, block-whole, half-size, own-size, sizes}
 use Rattle.truths.proofs.tables.put_block.Reads as put-block
 use Rattle.truths.proofs.tables.put_block.Kinds as put-block-kinds
