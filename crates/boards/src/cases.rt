@@ -7,6 +7,7 @@
 //     i NAME: TABLE / INPUT                                     what is read off at one input
 //     d NAME: DRAWING / ROOM                                    a drawing's table in a buffer of so many bytes
 //     w NAME: COUNT / ROOM                                      the same, of a drawing of so many nodes
+//     e NAME: RULES / ROOM                                      a rule sheet's table in a buffer of so many bytes
 //     b NAME: TABLE                                             the netlist that is built
 //     k NAME: TABLE / ROOM                                      what build keeps of a buffer of so many bytes
 //     l NAME: TABLE                                             the netlist that is built with a lamp
@@ -22,6 +23,7 @@ use text::print;
 use text::spelling;
 use views::drawings;
 use views::rows;
+use views::rules;
 use views::runs;
 use views::sheets;
 use views::tables;
@@ -69,6 +71,7 @@ fn show(kind: u8, case: &[u8]) {
         b'i' => tables::show_at(file, case),
         b'd' => drawings::show(file, case),
         b'w' => drawings::show_row(case),
+        b'e' => rules::show(file, case),
         b'b' => netlists::show(file),
         b'k' => netlists::show_kept(file, case),
         b'l' => netlists::show_with_lamp(file),

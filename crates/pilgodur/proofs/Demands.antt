@@ -22,6 +22,11 @@ use Rattle.drawing.specs.Drawing.{drawingIn}
 use Rattle.truths.specs.Service.{tableFor, drawingRefusal, fromDrawingOf}
 use Rattle.truths.proofs.Promises.{table-of-drawing, one-table, seventeen-if-wide}
 use Rattle.truths.proofs.GivenBack.{table-given-back}
+use Rattle.rulesheet.specs.Rules.{ruleSheetIn}
+use Rattle.coverage.specs.Service.{rulesRefusal, fromRulesOf}
+use Rattle.coverage.specs.Service as rules
+use Rattle.coverage.proofs.Promises.{table-of-rules, nineteen-if-shared, twenty-if-unruled, seventeen-if-wide-rules, one-table-of-rules}
+use Rattle.coverage.proofs.Order.{order-of-rules}
 use Rattle.rules.specs.Board.{tableBoard}
 use Rattle.rules.specs.Lamp.{lampBoard}
 use Rattle.synthesis.specs.Service.{checkedOr, checkedOf, buildingOf, lampBuildingOf}
@@ -56,7 +61,7 @@ probe-refused zero net hold buffer k e = absurd (omega arith)
 probe-refused (suc r) net hold buffer k e = (refl, refl, refl, refl)
 
 refusals : Refusals
-unfolding checkedOf buildingOf lampBuildingOf readingOf runOf probingOf probeOf sheetingOf fromDrawingOf
+unfolding checkedOf buildingOf lampBuildingOf readingOf runOf probingOf probeOf sheetingOf fromDrawingOf fromRulesOf
 refusals =
     record {
       check = λ table. check-refused (tableRefusal table) (tableBoard table);
@@ -69,6 +74,7 @@ refusals =
           probe-refused (probeRefusal table hold (length buffer)) (tableBoard table) (holdAt hold 0) buffer;
       sheet = λ netlist buffer. refused-writing (netlistRefusal netlist) (sheetOf (netlistIn netlist)) buffer;
       fromDrawing = λ drawing buffer. refused-writing (drawingRefusal drawing) (tableFor (drawingIn drawing)) buffer;
+      fromRules = λ sheet buffer. refused-writing (rulesRefusal sheet) (rules.tableFor (ruleSheetIn sheet)) buffer;
     }
 
 pub demands : Demands
@@ -98,6 +104,15 @@ demands =
             one = one-table;
             seventeen = seventeen-if-wide;
             back = table-given-back;
+          };
+      rules =
+          record {
+            table = table-of-rules;
+            nineteen = nineteen-if-shared;
+            twenty = twenty-if-unruled;
+            seventeen = seventeen-if-wide-rules;
+            one = one-table-of-rules;
+            order = order-of-rules;
           };
       twins = record { first = first-twins; none = no-twins; counted = pairs-counted; all = all-pairs };
       lamps =

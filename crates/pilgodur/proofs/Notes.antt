@@ -9,6 +9,7 @@ use Rattle.wiring.specs.Questions.{netlistOf, netlistIn, netlistRefusal}
 use Rattle.simulation.specs.Service.{runRefusal, runOf}
 use Rattle.sheet.specs.Service.{sheetingOf}
 use Rattle.truths.specs.Service.{drawingRefusal, fromDrawingOf}
+use Rattle.coverage.specs.Service.{rulesRefusal, fromRulesOf}
 use Rattle.synthesis.specs.Service.{checkedOf, buildingOf, lampBuildingOf}
 use Rattle.probe.specs.Service.{probeRefusal, probingOf}
 use Rattle.pilgodur.specs.Answers.{probeOf}
@@ -61,6 +62,10 @@ module _ (a b : List ℕ) (e : fieldsOf a ≡ fieldsOf b) where
   unfolding fromDrawingOf drawingRefusal
   drawn buffer = cc e
 
+  ruled : (buffer : List ℕ) → fromRulesOf a buffer ≡ fromRulesOf b buffer
+  unfolding fromRulesOf rulesRefusal
+  ruled buffer = cc e
+
 pub same-answers : SameAnswers
 same-answers =
     record {
@@ -72,6 +77,7 @@ same-answers =
       run = λ file w. ran file (withoutNotes file) (same file w);
       sheet = λ file w. printed file (withoutNotes file) (same file w);
       fromDrawing = λ file w. drawn file (withoutNotes file) (same file w);
+      fromRules = λ file w. ruled file (withoutNotes file) (same file w);
     }
   where
     same : (file : List ℕ) → IsWhole file → fieldsOf file ≡ fieldsOf (withoutNotes file)

@@ -2,7 +2,7 @@
 --
 -- The services return and write just what these definitions say, for every byte string (the contracts in src/lib.rt):
 -- check `checkedOf`, build `buildingOf`, build with lamp `lampBuildingOf`, read-off `readingOf`, run `runOf`, probe `probeOf`, sheet
--- `sheetingOf`, from-drawing `fromDrawingOf`. That each call is answered, and that nothing else is written, is what the proof of every function's contract says.
+-- `sheetingOf`, from-drawing `fromDrawingOf`, from-rules `fromRulesOf`. That each call is answered, and that nothing else is written, is what the proof of every function's contract says.
 use Prim.Native.Nat.{ℕ, suc}
 use mathlib.Core.Path.{_≡_}
 use mathlib.Core.List.{List}
@@ -16,6 +16,8 @@ use Rattle.sheet.specs.Service.{sheetingOf}
 use Rattle.sheet.specs.Promises.{SheetDetermines, SheetLength}
 use Rattle.truths.specs.Service.{fromDrawingOf}
 use Rattle.truths.specs.Promises.{TableOfDrawing, OneTable, SeventeenIfWide, TableGivenBack}
+use Rattle.coverage.specs.Service.{fromRulesOf}
+use Rattle.coverage.specs.Promises.{TableOfRules, NineteenIfShared, TwentyIfUnruled, SeventeenIfWideRules, OneTableOfRules, OrderOfRules}
 use Rattle.synthesis.specs.Service.{checkedOf, buildingOf, lampBuildingOf}
 use Rattle.rules.specs.Promises.{WithinFormulas, BuiltFilesPass, RightCode, DifferentNetlists}
 use Rattle.pilgodur.specs.Answers.{probeOf}
@@ -44,6 +46,8 @@ pub record Refusals : Type 0 where
       (sheetingOf netlist buffer .length ≡ 0) × (sheetingOf netlist buffer .buffer ≡ buffer)
   pub fromDrawing : (drawing buffer : List ℕ) (k : ℕ) → fromDrawingOf drawing buffer .refusal ≡ suc k →
       (fromDrawingOf drawing buffer .length ≡ 0) × (fromDrawingOf drawing buffer .buffer ≡ buffer)
+  pub fromRules : (rules buffer : List ℕ) (k : ℕ) → fromRulesOf rules buffer .refusal ≡ suc k →
+      (fromRulesOf rules buffer .length ≡ 0) × (fromRulesOf rules buffer .buffer ≡ buffer)
 
 -- Demand 2. The netlist of an accepted table is the one that the rules give: `buildingOf` and `checkedOf` speak of `boardOf`. It is
 -- within the formulas for gates and depth; each pair shows the table's value and its opposite; two accepted tables that
@@ -85,6 +89,17 @@ pub record Drawings : Type 0 where
   pub seventeen : SeventeenIfWide
   pub back : TableGivenBack
 
+-- Rule sheets. The result is an accepted table; every input fits just one rule, and the table gives that rule's word there. 19 is given
+-- exactly if two rules share an input, 20 exactly if none do and some input fits none, 17 as for drawings. Sheets of the same words get
+-- one table, and the order of the rules does not matter.
+pub record RuleSheets : Type 0 where
+  pub table : TableOfRules
+  pub nineteen : NineteenIfShared
+  pub twenty : TwentyIfUnruled
+  pub seventeen : SeventeenIfWideRules
+  pub one : OneTableOfRules
+  pub order : OrderOfRules
+
 -- Question 6. The search hands back the first pair of alike nodes, by level, then by the later node, then by the earlier; none exactly
 -- if no level has two; so many pairs are compared as there are up to that one, or all, which are w (w - 1) / 2 in a level of w nodes.
 pub record AlikeNodes : Type 0 where
@@ -123,6 +138,7 @@ pub record Demands : Type 0 where
   pub spare : SpareLines
   pub sheets : Sheets
   pub drawings : Drawings
+  pub rules : RuleSheets
   pub twins : AlikeNodes
   pub lamps : Lamps
   pub notes : Notes

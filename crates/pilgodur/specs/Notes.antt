@@ -8,6 +8,7 @@ use Rattle.table.specs.Table.{readingOf}
 use Rattle.simulation.specs.Service.{runOf}
 use Rattle.sheet.specs.Service.{sheetingOf}
 use Rattle.truths.specs.Service.{fromDrawingOf}
+use Rattle.coverage.specs.Service.{fromRulesOf}
 use Rattle.synthesis.specs.Service.{checkedOf, buildingOf, lampBuildingOf}
 use Rattle.pilgodur.specs.Answers.{probeOf}
 
@@ -30,3 +31,4 @@ pub record SameAnswers : Type 0 where
       sheetingOf netlist buffer ≡ sheetingOf (withoutNotes netlist) buffer
   pub fromDrawing : (drawing : List ℕ) → IsWhole drawing → (buffer : List ℕ) →
       fromDrawingOf drawing buffer ≡ fromDrawingOf (withoutNotes drawing) buffer
+  pub fromRules : (rules : List ℕ) → IsWhole rules → (buffer : List ℕ) → fromRulesOf rules buffer ≡ fromRulesOf (withoutNotes rules) buffer

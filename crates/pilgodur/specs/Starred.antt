@@ -8,12 +8,13 @@ use Rattle.simulation.specs.Service.{runOf}
 use Rattle.sheet.specs.Sheet.{ascii}
 use Rattle.sheet.specs.Service.{sheetingOf}
 use Rattle.truths.specs.Service.{fromDrawingOf}
+use Rattle.coverage.specs.Service.{fromRulesOf}
 use Rattle.synthesis.specs.Service.{checkedOf, buildingOf, lampBuildingOf}
 use Rattle.pilgodur.specs.Answers.{probeOf}
 
 -- What a service answers: check's numbers; the file that build, or build with lamp, writes to a buffer of its length; the pairs that a
 -- run of a netlist writes to a buffer of their length; probe's numbers; the lines of the sheet of a netlist, written to a buffer of its length; the table of a drawing, written to
--- a buffer of its length, or the refusal and no table.
+-- a buffer of its length, or the refusal and no table; of a rule sheet likewise.
 pub data Case : Type 0 where
   checks : (table : List ℕ) (refusal contacts outputs gates depth : ℕ) → Case
   builds : (table : List ℕ) (size : ℕ) (file : List ℕ) → Case
@@ -22,6 +23,7 @@ pub data Case : Type 0 where
   probes : (table hold : List ℕ) (refusal input output way : ℕ) → Case
   sheets : (netlist : List ℕ) (lines : List String) → Case
   draws : (drawing : List ℕ) (refusal : ℕ) (table : List ℕ) → Case
+  rules : (sheet : List ℕ) (refusal : ℕ) (table : List ℕ) → Case
 
 -- Buffers that are always long enough here.
 abbrev room : List ℕ
@@ -43,6 +45,8 @@ Answered (sheets netlist lines) =
     let s = sheetingOf netlist (replicate (length text) 0) in (s .refusal ≡ 0) × (s .length ≡ length text) × (s .buffer ≡ text)
 Answered (draws drawing refusal table) =
     let d = fromDrawingOf drawing (replicate (length table) 0) in (d .refusal ≡ refusal) × (d .length ≡ length table) × (d .buffer ≡ table)
+Answered (rules sheet refusal table) =
+    let r = fromRulesOf sheet (replicate (length table) 0) in (r .refusal ≡ refusal) × (r .length ≡ length table) × (r .buffer ≡ table)
 
 abbrev pub AllHold : List Case → Type 0
 AllHold [] = Unit
@@ -220,6 +224,29 @@ noted =
     drawingNumber ++ (1 ∷ 0 ∷ 1 ∷ 3 ∷ []) ++ emptyNote ++ drawingNumber ++ (2 ∷ 0 ∷ 1 ∷ 0 ∷ 3 ∷ 0 ∷ 2 ∷ 0 ∷ 1 ∷ []) ++ hiddenField
     ++ (3 ∷ 0 ∷ 4 ∷ 0 ∷ 1 ∷ 0 ∷ 2 ∷ 3 ∷ 0 ∷ 6 ∷ 0 ∷ 1 ∷ 0 ∷ 0 ∷ 1 ∷ 1 ∷ []) ++ emptyNote
 
+-- A rule sheet of so many contacts and outputs, and a rule of it.
+abbrev ruleSheet : ℕ → ℕ → List (List ℕ) → List ℕ
+ruleSheet n m sheet = 1 ∷ 0 ∷ 1 ∷ n ∷ 8 ∷ 0 ∷ 1 ∷ m ∷ flatMap (λ (rule : List ℕ). 9 ∷ 0 ∷ length rule ∷ rule) sheet
+
+-- The selector's rules: contact 1 open and contact 2 open or closed, then contact 1 closed and contact 0 open or closed.
+abbrev selectorRules : List ℕ
+selectorRules =
+    ruleSheet 3 1 ((2 ∷ 0 ∷ 0 ∷ 0 ∷ []) ∷ (2 ∷ 0 ∷ 1 ∷ 1 ∷ []) ∷ (0 ∷ 1 ∷ 2 ∷ 0 ∷ []) ∷ (1 ∷ 1 ∷ 2 ∷ 1 ∷ []) ∷ [])
+
+-- Eight outputs whose halves are sixteen functions of contacts 1 and 2.
+abbrev wideRules : List ℕ
+wideRules =
+    ruleSheet 3 8
+    ((0 ∷ 0 ∷ 0 ∷ 0 ∷ [])
+    ∷ (0 ∷ 1 ∷ 0 ∷ 170 ∷ [])
+    ∷ (0 ∷ 0 ∷ 1 ∷ 204 ∷ [])
+    ∷ (0 ∷ 1 ∷ 1 ∷ 240 ∷ [])
+    ∷ (1 ∷ 0 ∷ 0 ∷ 255 ∷ [])
+    ∷ (1 ∷ 1 ∷ 0 ∷ 170 ∷ [])
+    ∷ (1 ∷ 0 ∷ 1 ∷ 204 ∷ [])
+    ∷ (1 ∷ 1 ∷ 1 ∷ 240 ∷ [])
+    ∷ [])
+
 abbrev pub starred : List Case
 starred =
     checks selector 0 3 1 9 4
@@ -287,4 +314,20 @@ starred =
     ∷ sheets (emptyNote ++ steadyLampFile ++ drawingNumber) steadyLampSheet
     ∷ draws (drawingNumber ++ redrawn ++ emptyNote) 0 selector
     ∷ draws (redrawn ++ (128 ∷ 0 ∷ [])) 16 []
+    -- Rule sheets: the selector's rules in two orders, and one rule that every input fits.
+    ∷ rules selectorRules 0 selector
+    ∷ rules (ruleSheet 3 1 ((1 ∷ 1 ∷ 2 ∷ 1 ∷ []) ∷ (2 ∷ 0 ∷ 1 ∷ 1 ∷ []) ∷ (0 ∷ 1 ∷ 2 ∷ 0 ∷ []) ∷ (2 ∷ 0 ∷ 0 ∷ 0 ∷ []) ∷ [])) 0 selector
+    ∷ rules (ruleSheet 1 1 ((2 ∷ 1 ∷ []) ∷ [])) 0 (1 ∷ 0 ∷ 1 ∷ 1 ∷ 2 ∷ 0 ∷ 1 ∷ 0 ∷ 3 ∷ 0 ∷ 2 ∷ 1 ∷ 1 ∷ [])
+    -- A word of 2^m; a contact of 3; a rule one byte short; no rule.
+    ∷ rules (ruleSheet 1 1 ((2 ∷ 2 ∷ []) ∷ [])) 18 []
+    ∷ rules (ruleSheet 1 1 ((3 ∷ 1 ∷ []) ∷ [])) 18 []
+    ∷ rules (ruleSheet 2 1 ((2 ∷ 1 ∷ []) ∷ [])) 18 []
+    ∷ rules (ruleSheet 1 1 []) 18 []
+    -- An input that two rules share, with equal words; one, while another fits none; one that fits none.
+    ∷ rules (ruleSheet 1 1 ((0 ∷ 1 ∷ []) ∷ (2 ∷ 1 ∷ []) ∷ [])) 19 []
+    ∷ rules (ruleSheet 2 1 ((0 ∷ 2 ∷ 1 ∷ []) ∷ (0 ∷ 0 ∷ 0 ∷ []) ∷ [])) 19 []
+    ∷ rules (ruleSheet 2 1 ((0 ∷ 2 ∷ 1 ∷ []) ∷ (1 ∷ 0 ∷ 0 ∷ []) ∷ [])) 20 []
+    ∷ rules wideRules 17 []
+    ∷ rules (drawingNumber ++ selectorRules ++ emptyNote) 0 selector
+    ∷ rules (selectorRules ++ (128 ∷ 0 ∷ [])) 18 []
     ∷ []

@@ -8,6 +8,7 @@ ghost use Rattle.table.specs.Table.{readingOf};
 ghost use Rattle.simulation.specs.Service.{runOf};
 ghost use Rattle.sheet.specs.Service.{sheetingOf};
 ghost use Rattle.truths.specs.Service.{fromDrawingOf};
+ghost use Rattle.coverage.specs.Service.{fromRulesOf};
 ghost use Rattle.synthesis.specs.Service.{checkedOf, buildingOf, lampBuildingOf};
 ghost use Rattle.pilgodur.specs.Answers.{wayNumber, probeOf};
 
@@ -111,4 +112,13 @@ pub extern "C" fn pilgodur_from_drawing(drawing: &[u8], table: &mut [u8]) -> Wri
         ≡ fromDrawingOf (now (drawing .entry)) (now (table .entry)) ⌝ }
 {
     truths::from_drawing(drawing, table)
+}
+
+// Writes the table of a rule sheet: questions 18, 19, 20, 17, then 9; the table's bytes and its length.
+#[no_mangle]
+pub extern "C" fn pilgodur_from_rules(rules: &[u8], table: &mut [u8]) -> Written
+    ensures { λ r. ⌜ record { refusal = r .refusal; length = r .length; buffer = now (table .exit) }
+        ≡ fromRulesOf (now (rules .entry)) (now (table .entry)) ⌝ }
+{
+    coverage::from_rules(rules, table)
 }

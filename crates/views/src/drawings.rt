@@ -1,4 +1,5 @@
 // The number that a drawing gets and the length of its table; then the lent bytes, points where nothing is written.
+use files::Written;
 use text::print;
 use text::spelling;
 ghost use Prim.Native.Nat.{_≤_};
@@ -9,13 +10,18 @@ pub fn show(drawing: &[u8], case: &[u8]) {
     let room = spelling::number(case, 1, 244);
     let mut lent = [b'.'; 10610];
     let written = truths::from_drawing(drawing, &mut lent[0..room]);
+    show_table(written, &lent, room);
+}
+
+// What was returned, and the lent bytes, so many.
+pub fn show_table(written: Written, lent: &[u8; 10610], room: usize) {
     print::form(
         b": %, bytes %",
         written.refusal as usize,
         written.length as usize,
         0,
     );
-    print::signs(b", table ", &lent, 0, room);
+    print::signs(b", table ", lent, 0, room);
 }
 
 // That of a row of nodes.

@@ -1,6 +1,7 @@
-// What a case shows of files, tables, drawings, runs and sheets.
+// What a case shows of files, tables, drawings, rule sheets, runs and sheets.
 pub mod drawings;
 pub mod rows;
+pub mod rules;
 pub mod runs;
 pub mod sheets;
 pub mod tables;

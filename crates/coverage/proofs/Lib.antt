@@ -1,0 +1,12 @@
+pub mod Applied
+pub mod Inputs
+pub mod Cubes
+pub mod Marks
+pub mod Adds
+pub mod Gathers
+pub mod Covers
+pub mod Outcomes
+pub mod Lying
+pub mod Fitting
+pub mod Promises
+pub mod Order

@@ -1,0 +1,4 @@
+pub mod Coverage
+pub mod Service
+pub mod Promises
+pub mod Inner
