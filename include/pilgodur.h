@@ -15,9 +15,13 @@
  *            tag 7, three bytes for each node (0 to 200): its level (0 to n-1), its 0-edge and its 1-edge. Numbers 0 and 1 are the
  *            constants false and true, 2 is the first node. A node of level l looks at contact l. An edge leads to a constant or
  *            to a node of a higher level, and may skip levels; nodes may be alike, and nothing need mention a node.
- *   Notes:   tags 128 to 255, any length and value. A field of such a tag may stand anywhere in a table, netlist or drawing, also first
- *            or last, any number of times. Every service answers as for the file without its notes, and writes none. A note
- *            that is cut short is a field cut short.
+ *   Rule sheet: tag 1 as above.
+ *            tag 8, one byte m, the count of outputs (1 to 8).
+ *            1 to 64 fields of tag 9, a rule each: n bytes, one for each contact from 0 up, 0 or 1 for a contact that must have that
+ *            value and 2 for one that may have either; then a permit word below 2^m, in which output j has the weight 2^j.
+ *   Notes:   tags 128 to 255, any length and value. A field of such a tag may stand anywhere in a table, netlist, drawing or rule
+ *            sheet, also first or last, any number of times. Every service answers as for the file without its notes, and writes
+ *            none. A note that is cut short is a field cut short.
  *
  * LINES. 0 and 1 are the constants. The true rail of contact i is 2+2i, its false rail 3+2i. Gate g, counted from 0, is 2+2n+g.
  * A netlist with n contacts and g gates has 2+2n+g lines. A pair is written true rail first: 10 is yes, 01 is no, 00 and 11 are
@@ -66,9 +70,9 @@
 extern "C" {
 #endif
 
-#define PILGODUR_VERSION "2.3.0"
+#define PILGODUR_VERSION "2.4.0"
 #define PILGODUR_VERSION_MAJOR 2
-#define PILGODUR_VERSION_MINOR 3
+#define PILGODUR_VERSION_MINOR 4
 #define PILGODUR_VERSION_PATCH 0
 
 /* The first tag of notes; the last is 255. */
@@ -98,7 +102,11 @@ extern "C" {
       "question 2, tag 2 of 1 to 8 outputs, tag 7 of 0 to 200 whole nodes, every level below n, every edge to a constant or a " \
       "listed node of a higher level, every output a constant or a listed node?") \
     Q(17, PILGODUR_REFUSAL_FUNCTIONS, "For every count of first contacts below n, does fixing them leave at most eight different " \
-      "functions over all outputs?")
+      "functions over all outputs?") \
+    Q(18, PILGODUR_REFUSAL_RULES, "Does the rule sheet have whole fields of tags 1 and 8, then 1 to 64 of tag 9, in that order and no " \
+      "more, tag 1 as in question 2, tag 8 of length 1 and value 1 to 8, each tag 9 of n bytes from 0 to 2 and a word below 2^m?") \
+    Q(19, PILGODUR_REFUSAL_SHARED, "Does no input fit two rules?") \
+    Q(20, PILGODUR_REFUSAL_UNRULED, "Does every input fit a rule?")
 
 #define PILGODUR_REFUSAL_(number, name, text) name = number,
 enum pilgodur_refusal { PILGODUR_REFUSAL_NONE = 0, PILGODUR_QUESTIONS(PILGODUR_REFUSAL_) };
@@ -166,6 +174,12 @@ pilgodur_built pilgodur_sheet(const uint8_t *netlist, size_t netlist_len, uint8_
  * accepted table with the drawing's contacts and outputs that has these values, and returns its length; table needs at least that
  * length. Two drawings with the same contacts and the same values give the same table. */
 pilgodur_built pilgodur_from_drawing(const uint8_t *drawing, size_t drawing_len, uint8_t *table, size_t table_len);
+
+/* Makes the table of a rule sheet. Questions 18, 19, 20, 17, then 9. An input fits a rule if each contact has the rule's value for it
+ * or the rule has 2 there. Every input must fit just one rule: two that share an input are refused even with the same word. Writes to
+ * the start of table the one accepted table with the sheet's contacts and outputs that gives at every input the word of the rule it
+ * fits, and returns its length; table needs at least that length. The order of the rules makes no difference. */
+pilgodur_built pilgodur_from_rules(const uint8_t *rules, size_t rules_len, uint8_t *table, size_t table_len);
 
 #ifdef __cplusplus
 }
