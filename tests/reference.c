@@ -1,99 +1,14 @@
 /* Tables become linked nodes, netlists become linked symbolic terms that get their numbers last, the lamp's too, permits are read off
- * truth tables, lines are worked out by need, from the outputs back to the rails, sheets are printed row by row to a stream, and
- * drawings are reduced from the last level up until equal functions are one node. Clarity before speed. */
+ * truth tables, lines are worked out by need, from the outputs back to the rails, and sheets are printed row by row to a stream.
+ * Clarity before speed. */
 #define _XOPEN_SOURCE 700
 #include "reference.h"
 
-#include <stdbool.h>
 #include <stdio.h>
 #include <stdlib.h>
 #include <string.h>
 
-/* ---- Memory of one call: handed out piece by piece, given back as a whole. ---- */
-
-struct piece {
-    struct piece *before;
-    max_align_t content[];
-};
-
-struct pool {
-    struct piece *last;
-};
-
-static _Noreturn void run_out(void)
-{
-    fputs("reference: out of memory\n", stderr);
-    abort();
-}
-
-static void *take(struct pool *pool, size_t size)
-{
-    struct piece *piece = calloc(1, sizeof *piece + size);
-    if (piece == NULL)
-        run_out();
-    piece->before = pool->last;
-    pool->last = piece;
-    return piece->content;
-}
-
-static void give_back(struct pool *pool)
-{
-    while (pool->last != NULL) {
-        struct piece *piece = pool->last;
-        pool->last = piece->before;
-        free(piece);
-    }
-}
-
-/* ---- Files as lists of fields. ---- */
-
-struct field {
-    unsigned tag;
-    size_t length;
-    const uint8_t *value;
-    struct field *next;
-};
-
-static unsigned two_bytes(const uint8_t *at)
-{
-    return 256u * at[0] + at[1];
-}
-
-static bool is_note(const struct field *field)
-{
-    return field->tag >= 128;
-}
-
-/* The fields that stand whole at the start of a file, but for notes; *whole tells whether nothing is left over. */
-static struct field *fields_of(struct pool *pool, const uint8_t *file, size_t length, bool *whole)
-{
-    struct field *first = NULL;
-    struct field **end = &first;
-    size_t at = 0;
-    while (length - at >= 3 && two_bytes(file + at + 1) <= length - at - 3) {
-        struct field *field = take(pool, sizeof *field);
-        field->tag = file[at];
-        field->length = two_bytes(file + at + 1);
-        field->value = file + at + 3;
-        if (!is_note(field)) {
-            *end = field;
-            end = &field->next;
-        }
-        at += 3 + field->length;
-    }
-    *whole = at == length;
-    return first;
-}
-
-static bool is_field(const struct field *field, unsigned tag, size_t least, size_t most)
-{
-    return field != NULL && field->tag == tag && least <= field->length && field->length <= most;
-}
-
-static bool is_contacts(const struct field *field)
-{
-    return is_field(field, 1, 1, 1) && 1 <= field->value[0] && field->value[0] <= 12;
-}
+#include "reference_files.h"
 
 /* ---- Tables as linked nodes. ---- */
 
@@ -472,17 +387,6 @@ static void make_board(struct pool *pool, const struct diagram *diagram, bool la
 
 /* ---- The netlist file. ---- */
 
-static uint8_t *put(uint8_t *at, unsigned number)
-{
-    *at = (uint8_t)number;
-    return at + 1;
-}
-
-static uint8_t *put_two(uint8_t *at, unsigned number)
-{
-    return put(put(at, number / 256), number % 256);
-}
-
 static size_t file_length(const struct board *board)
 {
     return 4 + (3 + 5 * (size_t)board->gates) + (3 + 4 * (size_t)board->diagram->outputs) + (board->has_lamp ? 3 + 4 : 0);
@@ -725,146 +629,6 @@ static void print_sheet(FILE *out, const struct netlist *netlist)
     }
 }
 
-/* ---- Drawings. ---- */
-
-/* A function of the contacts, made once: two of a drawing are equal exactly if they are the same node. */
-struct function {
-    unsigned level;                 /* of the first contact on which it depends; the count of contacts for a constant */
-    const struct function *half[2]; /* what is left of it with that contact open and with it closed */
-    struct function *before;        /* the one made before it */
-};
-
-struct drawing {
-    unsigned contacts, outputs, nodes;
-    const uint8_t *output;
-    const uint8_t *node;               /* three bytes each */
-    const struct function *drawn[202]; /* by number */
-    struct function *last;             /* made so far */
-};
-
-/* The level of a number: that of a listed node, the count of contacts for a constant. */
-static unsigned level_of(const struct drawing *drawing, unsigned number)
-{
-    return number < 2 ? drawing->contacts : drawing->node[3 * (number - 2)];
-}
-
-static bool is_listed(const struct drawing *drawing, unsigned number)
-{
-    return number < 2 + drawing->nodes;
-}
-
-static bool leads_up(const struct drawing *drawing, unsigned level, unsigned edge)
-{
-    return is_listed(drawing, edge) && level < level_of(drawing, edge);
-}
-
-/* Question 16; the drawing is there, with no function made, if it gets a yes. */
-static bool read_drawing(struct pool *pool, const uint8_t *file, size_t length, struct drawing *drawing)
-{
-    bool whole;
-    const struct field *contacts = fields_of(pool, file, length, &whole);
-    if (!whole || !is_contacts(contacts) || !is_field(contacts->next, 2, 1, 8) || !is_field(contacts->next->next, 7, 0, 3 * 200) ||
-        contacts->next->next->length % 3 != 0 || contacts->next->next->next != NULL)
-        return false;
-    drawing->contacts = contacts->value[0];
-    drawing->outputs = (unsigned)contacts->next->length;
-    drawing->output = contacts->next->value;
-    drawing->nodes = (unsigned)contacts->next->next->length / 3;
-    drawing->node = contacts->next->next->value;
-    for (unsigned i = 0; i < drawing->nodes; i++) {
-        const uint8_t *node = drawing->node + 3 * i;
-        if (node[0] >= drawing->contacts || !leads_up(drawing, node[0], node[1]) || !leads_up(drawing, node[0], node[2]))
-            return false;
-    }
-    for (unsigned j = 0; j < drawing->outputs; j++)
-        if (!is_listed(drawing, drawing->output[j]))
-            return false;
-    return true;
-}
-
-/* The function of a node of this level with these halves. */
-static const struct function *function_of(struct pool *pool, struct drawing *drawing, unsigned level, const struct function *open,
-                                          const struct function *closed)
-{
-    if (open == closed)
-        return open;
-    for (const struct function *made = drawing->last; made != NULL; made = made->before)
-        if (made->level == level && made->half[0] == open && made->half[1] == closed)
-            return made;
-    struct function *made = take(pool, sizeof *made);
-    *made = (struct function){level, {open, closed}, drawing->last};
-    drawing->last = made;
-    return made;
-}
-
-/* Gives every number its function, the highest level first. */
-static void make_functions(struct pool *pool, struct drawing *drawing)
-{
-    for (unsigned constant = 0; constant < 2; constant++) {
-        struct function *made = take(pool, sizeof *made);
-        made->level = drawing->contacts;
-        drawing->drawn[constant] = made;
-    }
-    for (unsigned level = drawing->contacts; level-- > 0;)
-        for (unsigned i = 0; i < drawing->nodes; i++) {
-            const uint8_t *node = drawing->node + 3 * i;
-            if (node[0] == level)
-                drawing->drawn[2 + i] = function_of(pool, drawing, level, drawing->drawn[node[1]], drawing->drawn[node[2]]);
-        }
-}
-
-/* The functions that are left in one level, in the sequence of their first mention. */
-struct level {
-    unsigned width;
-    const struct function *function[8];
-};
-
-/* The place of a function in a level, where it is put if it was not there; 8 if there is no room for it. */
-static unsigned place_in(struct level *level, const struct function *function)
-{
-    unsigned place = 0;
-    while (place < level->width && level->function[place] != function)
-        place++;
-    if (place == level->width && place < 8)
-        level->function[level->width++] = function;
-    return place;
-}
-
-/* Writes one level's field and finds the functions of the next; false if there are more than eight. */
-static bool write_level(const struct level *level, unsigned l, struct level *next, uint8_t **at)
-{
-    *at = put_two(put(*at, 3), 2 * level->width);
-    for (unsigned u = 0; u < level->width; u++) {
-        const struct function *function = level->function[u];
-        for (unsigned value = 0; value < 2; value++) {
-            unsigned place = place_in(next, function->level == l ? function->half[value] : function);
-            if (place == 8)
-                return false;
-            *at = put(*at, place);
-        }
-    }
-    return true;
-}
-
-/* Writes the table, at most 243 bytes, and returns its length; 0 if question 17 gets a no. */
-static size_t write_table(const struct drawing *drawing, uint8_t *table)
-{
-    struct level level = {0};
-    uint8_t *at = put(put_two(put(table, 1), 1), drawing->contacts);
-    at = put_two(put(at, 2), drawing->outputs);
-    for (unsigned j = 0; j < drawing->outputs; j++)
-        at = put(at, place_in(&level, drawing->drawn[drawing->output[j]]));
-    for (unsigned l = 0; l < drawing->contacts; l++) {
-        struct level next = {0};
-        if (l + 1 == drawing->contacts)
-            next = (struct level){2, {drawing->drawn[0], drawing->drawn[1]}};
-        if (!write_level(&level, l, &next, &at))
-            return 0;
-        level = next;
-    }
-    return (size_t)(at - table);
-}
-
 /* ---- The services. ---- */
 
 pilgodur_checked ref_check(const uint8_t *table, size_t table_len)
@@ -1025,23 +789,6 @@ pilgodur_built ref_sheet(const uint8_t *netlist, size_t netlist_len, uint8_t *te
         answer.length = text_len < length ? 0 : (uint32_t)length;
         memcpy(text, sheet, answer.length);
         free(sheet);
-    }
-    give_back(&pool);
-    return answer;
-}
-
-pilgodur_built ref_from_drawing(const uint8_t *drawing, size_t drawing_len, uint8_t *table, size_t table_len)
-{
-    struct pool pool = {NULL};
-    struct drawing drawn = {0};
-    pilgodur_built answer = {16, 0};
-    if (read_drawing(&pool, drawing, drawing_len, &drawn)) {
-        uint8_t made[243];
-        make_functions(&pool, &drawn);
-        size_t length = write_table(&drawn, made);
-        answer.refusal = length == 0 ? 17 : table_len < length ? 9 : 0;
-        answer.length = answer.refusal == 0 ? (uint32_t)length : 0;
-        memcpy(table, made, answer.length);
     }
     give_back(&pool);
     return answer;

@@ -1,4 +1,4 @@
-/* The independent implementation of the eight services, written from the rules alone. Same arguments and answers as pilgodur.h. */
+/* The independent implementation of the nine services, written from the rules alone. Same arguments and answers as pilgodur.h. */
 #ifndef REFERENCE_H
 #define REFERENCE_H
 
@@ -15,5 +15,6 @@ pilgodur_probed ref_probe(const uint8_t *table, size_t table_len, const uint8_t 
                           uint8_t *buffer, size_t buffer_len);
 pilgodur_built ref_sheet(const uint8_t *netlist, size_t netlist_len, uint8_t *text, size_t text_len);
 pilgodur_built ref_from_drawing(const uint8_t *drawing, size_t drawing_len, uint8_t *table, size_t table_len);
+pilgodur_built ref_from_rules(const uint8_t *rules, size_t rules_len, uint8_t *table, size_t table_len);
 
 #endif
