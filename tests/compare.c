@@ -1,6 +1,6 @@
 /* Compares the library with the reference, call by call, on boards with spare contacts in every place, on lamps of every count of
- * outputs and of every damage, on drawings of every kind, on notes of every kind in every place and on random cases, and asks the
- * demands of boards that the library builds and of tables that it makes from drawings.
+ * outputs and of every damage, on drawings and rule sheets of every kind, on notes of every kind in every place and on random cases, and
+ * asks the demands of boards that the library builds and of tables that it makes from drawings and rule sheets.
  *
  *     compare [SEED [CASES]]
  *
@@ -16,39 +16,13 @@
 #include <string.h>
 #include <unistd.h>
 
-#include "../include/pilgodur.h"
-#include "damage.h"
-#include "demands.h"
-#include "lent.h"
+#include "calls.h"
+#include "malformed.h"
 #include "reference.h"
+#include "rule_cases.h"
 
 _Static_assert(PILGODUR_TABLE_MAX == TABLE_MAX, "the length of the longest table");
 _Static_assert(PILGODUR_NOTE_TAG == NOTE_TAG, "the first tag of notes");
-
-enum { STRINGS = 5, NUMBERS = 5, REFUSALS = 18, NOISE = 1 << 19, MOST_DIFFERENCES = 10 };
-enum service { CHECK, BUILD, BUILD_WITH_LAMP, READ_OFF, RUN, PROBE, SHEET, FROM_DRAWING, SERVICES };
-enum side { LIBRARY, REFERENCE, NOTED_LIBRARY, NOTED_REFERENCE, SIDES };
-
-static const char *const service_names[SERVICES] = {"check", "build", "build-with-lamp", "read-off", "run", "probe", "sheet",
-                                                     "from-drawing"};
-static const char *const side_names[SIDES] = {"library", "reference", "library, with notes", "reference, with notes"};
-static const unsigned string_counts[SERVICES] = {1, 2, 2, 1, 5, 3, 2, 2};
-static const unsigned number_counts[SERVICES] = {5, 2, 2, 2, 1, 4, 2, 2};
-static const char *const string_names[SERVICES][STRINGS] = {
-    {"table"}, {"table", "file"}, {"table", "file"}, {"table"}, {"netlist", "rails", "holds", "lines", "pairs"},
-    {"table", "hold", "buffer"}, {"netlist", "text"}, {"drawing", "table"}};
-static const char *const number_names[SERVICES][NUMBERS] = {
-    {"refusal", "contacts", "outputs", "gates", "depth"},
-    {"refusal", "length"},
-    {"refusal", "length"},
-    {"refusal", "word"},
-    {"refusal"},
-    {"refusal", "input", "output", "way"},
-    {"refusal", "length"},
-    {"refusal", "length"}};
-
-/* The numbers that each service can give, as a set of bits. */
-static const unsigned possible[SERVICES] = {0xff, 0x2ff, 0x2ff, 0x4ff, 0x7a01, 0xc2ff, 0x1a01, 0x30201};
 
 /* Sizes of netlists whose sheets are compared again and again: about the end of a page, with no gates, and the largest; the last number
  * counts the lamp. */
@@ -60,36 +34,7 @@ static const struct size {
                    {MOST_GATES, 8, 0}, {MOST_GATES, 8, 1}};
 enum { SHEET_SIZES = sizeof sheet_sizes / sizeof *sheet_sizes };
 
-/* One call: the strings in the order of the parameters. */
-struct call {
-    enum service service;
-    uint32_t input;
-    const uint8_t *content[STRINGS];
-    size_t length[STRINGS];
-    bool written[STRINGS]; /* a buffer */
-    size_t need[STRINGS];  /* the bytes that an answer writes to it */
-    unsigned sides;        /* how many are asked: all, or those without notes */
-};
-
-struct answer {
-    uint32_t number[NUMBERS];
-};
-
-static struct dice dice;
-static struct lent lent[SIDES][STRINGS];
-static uint8_t noise[NOISE];
-static uint64_t seed = 1;
-static unsigned long cases;
-static unsigned long differences;
-static unsigned long hits[SERVICES][REFUSALS], noted_hits[SERVICES][REFUSALS];
-static struct file noted; /* the file of a call with notes put in */
-static struct {
-    unsigned percent; /* of the cases get notes */
-    bool any;         /* of any kind, in any place; else of this kind in this place */
-    enum note_kind kind;
-    unsigned place;
-} noting = {.percent = 35, .any = true};
-static unsigned long noted_kinds[NOTE_KINDS], noted_places[15], cut_notes[CUT_KINDS], damaged_notes, tags_passed, tags_refused;
+static unsigned long cut_notes[CUT_KINDS], tags_passed, tags_refused;
 static unsigned long accepted_contacts[13], accepted_outputs[9], accepted_width[9], accepted_spare[13], spare_place[12];
 static unsigned long with_constant, all_constant, eleven_spare_of_12;
 static unsigned long sheets[SHEET_SIZES];
@@ -99,241 +44,8 @@ static unsigned long at_eight[13][12], at_nine[13][12]; /* drawings by contacts 
 static struct {
     unsigned long no_nodes, all_nodes, skipping, repeating, unmentioned, constant_outputs, upward, downward;
 } drawn;
-static struct demands demands;
-static char where[160]; /* what is being done, for the message after a fault */
 
-/* ---- One case. ---- */
-
-static struct answer perform(enum side side, const struct call *call)
-{
-    bool ours = side == LIBRARY || side == NOTED_LIBRARY;
-    const struct lent *s = lent[side];
-    struct answer a = {{0}};
-    if (call->service == CHECK) {
-        pilgodur_checked r = (ours ? pilgodur_check : ref_check)(s[0].bytes, s[0].length);
-        a = (struct answer){{r.refusal, r.contacts, r.outputs, r.gates, r.depth}};
-    } else if (call->service == BUILD) {
-        pilgodur_built r = (ours ? pilgodur_build : ref_build)(s[0].bytes, s[0].length, s[1].bytes, s[1].length);
-        a = (struct answer){{r.refusal, r.length}};
-    } else if (call->service == BUILD_WITH_LAMP) {
-        pilgodur_built r = (ours ? pilgodur_build_with_lamp : ref_build_with_lamp)(s[0].bytes, s[0].length, s[1].bytes, s[1].length);
-        a = (struct answer){{r.refusal, r.length}};
-    } else if (call->service == READ_OFF) {
-        pilgodur_reading r = (ours ? pilgodur_read_off : ref_read_off)(s[0].bytes, s[0].length, call->input);
-        a = (struct answer){{r.refusal, r.word}};
-    } else if (call->service == RUN) {
-        a.number[0] = (ours ? pilgodur_run : ref_run)(s[0].bytes, s[0].length, s[1].bytes, s[1].length, s[2].bytes,
-                                                      s[2].length, s[3].bytes, s[3].length, s[4].bytes, s[4].length);
-    } else if (call->service == SHEET) {
-        pilgodur_built r = (ours ? pilgodur_sheet : ref_sheet)(s[0].bytes, s[0].length, s[1].bytes, s[1].length);
-        a = (struct answer){{r.refusal, r.length}};
-    } else if (call->service == FROM_DRAWING) {
-        pilgodur_built r = (ours ? pilgodur_from_drawing : ref_from_drawing)(s[0].bytes, s[0].length, s[1].bytes, s[1].length);
-        a = (struct answer){{r.refusal, r.length}};
-    } else {
-        pilgodur_probed r = (ours ? pilgodur_probe : ref_probe)(s[0].bytes, s[0].length, s[1].bytes, s[1].length, s[2].bytes,
-                                                                s[2].length);
-        a = (struct answer){{r.refusal, r.input, r.output, r.way}};
-    }
-    return a;
-}
-
-/* Whether a side gave a number that the service can give, and kept to the rules for lent bytes: none outside a buffer, none after a
- * refusal, none past what is written. */
-static const char *misuse(enum side side, const struct call *call, const struct answer *answer)
-{
-    if (answer->number[0] >= REFUSALS || !(possible[call->service] >> answer->number[0] & 1))
-        return "the service never gives this number";
-    for (unsigned i = 1; i < NUMBERS && answer->number[0] != 0; i++)
-        if (answer->number[i] != 0)
-            return "a refusal comes with a number that is not zero";
-    for (unsigned k = 0; k < string_counts[call->service]; k++) {
-        bool answered = call->written[k] && answer->number[0] == 0;
-        size_t kept = answered ? call->need[k] : 0;
-        if (kept > call->length[k])
-            return "a buffer that is too short is not refused";
-        if (!untouched_from(&lent[side][k], kept))
-            return answered ? "a byte past the answer or outside the buffer has changed" : "a lent byte has changed";
-    }
-    return NULL;
-}
-
-static const char *disagreement(enum side side, const struct call *call, const struct answer *answers)
-{
-    if (memcmp(&answers[LIBRARY], &answers[side], sizeof *answers) != 0)
-        return "the answer differs from the library's";
-    for (unsigned k = 0; k < string_counts[call->service]; k++)
-        if (call->written[k] && memcmp(lent[LIBRARY][k].bytes, lent[side][k].bytes, call->length[k]) != 0)
-            return "the written bytes differ from the library's";
-    return NULL;
-}
-
-static void print_bytes(const uint8_t *bytes, size_t length)
-{
-    printf(" hex:");
-    for (size_t i = 0; i < length; i++)
-        printf("%02x", bytes[i]);
-    printf("\n");
-}
-
-static void print_buffer(const struct call *call, unsigned k)
-{
-    for (unsigned side = 1; side < call->sides; side++) {
-        const uint8_t *a = lent[LIBRARY][k].bytes;
-        const uint8_t *b = lent[side][k].bytes;
-        size_t i = 0;
-        while (i < call->length[k] && a[i] == b[i])
-            i++;
-        if (i < call->length[k])
-            printf(": first differ at byte %zu, library %02x, %s %02x", i, a[i], side_names[side], b[i]);
-    }
-    printf("\n");
-}
-
-static void print_strings(const struct call *call)
-{
-    for (unsigned k = 0; k < string_counts[call->service]; k++) {
-        printf("  %s, %zu bytes", string_names[call->service][k], call->length[k]);
-        if (call->written[k])
-            print_buffer(call, k);
-        else
-            print_bytes(call->content[k], call->length[k]);
-    }
-    if (call->sides == SIDES) {
-        printf("  %s with notes, %zu bytes", string_names[call->service][0], noted.length);
-        print_bytes(noted.bytes, noted.length);
-    }
-}
-
-static void stop_after_many(void)
-{
-    if (differences + demands.failures >= MOST_DIFFERENCES) {
-        printf("stopped after %lu differences\n", differences + demands.failures);
-        exit(1);
-    }
-}
-
-static void report(const struct call *call, const struct answer *answers, enum side who, const char *what)
-{
-    printf("difference in case %lu, seed %" PRIu64 ", %s: %s: %s\n", cases, seed, service_names[call->service], side_names[who],
-           what);
-    for (unsigned side = 0; side < call->sides; side++) {
-        printf("  %-21s", side_names[side]);
-        for (unsigned i = 0; i < number_counts[call->service]; i++)
-            printf(" %s %" PRIu32, number_names[call->service][i], answers[side].number[i]);
-        printf("\n");
-    }
-    if (call->service == READ_OFF)
-        printf("  input %" PRIu32 "\n", call->input);
-    print_strings(call);
-    differences++;
-    stop_after_many();
-}
-
-/* Puts notes into the file of a call, if this case is to have them. The longest and the most notes are drawn less often. */
-static void note_some(struct call *call)
-{
-    static struct file file;
-    enum note_kind kind = noting.kind;
-    unsigned place = noting.place;
-    if (!chance(&dice, noting.percent))
-        return;
-    if (noting.any) {
-        kind = chance(&dice, 80) ? ANY_NOTE : chance(&dice, 90) ? EMPTY_NOTE : (enum note_kind)roll(&dice, NOTE_KINDS);
-        place = chance(&dice, 70) ? EVERYWHERE : roll(&dice, 15);
-    }
-    file.length = call->length[0];
-    memcpy(file.bytes, call->content[0], file.length);
-    put_notes(&dice, kind, place, &file, &noted);
-    call->sides = SIDES;
-    noted_kinds[kind]++;
-    if (place != EVERYWHERE)
-        noted_places[place]++;
-}
-
-static void lend_strings(enum side side, const struct call *call, const enum place *places)
-{
-    for (unsigned k = 0; k < string_counts[call->service]; k++) {
-        bool with_notes = k == 0 && side >= NOTED_LIBRARY;
-        lend(&lent[side][k], with_notes ? noted.bytes : call->content[k], with_notes ? noted.length : call->length[k], places[k]);
-    }
-}
-
-/* Returns the reference's number. */
-static uint32_t compare(struct call *call)
-{
-    struct answer answers[SIDES];
-    enum place places[STRINGS];
-    const char *what = NULL;
-    cases++;
-    snprintf(where, sizeof where, "case %lu, seed %" PRIu64 ", %s", cases, seed, service_names[call->service]);
-    for (unsigned k = 0; k < STRINGS; k++)
-        places[k] = (enum place)roll(&dice, PLACES);
-    call->sides = NOTED_LIBRARY;
-    note_some(call);
-    for (unsigned side = 0; side < call->sides; side++) {
-        lend_strings((enum side)side, call, places);
-        answers[side] = perform((enum side)side, call);
-    }
-    for (unsigned side = 0; side < call->sides && what == NULL; side++) {
-        what = disagreement((enum side)side, call, answers);
-        what = what != NULL ? what : misuse((enum side)side, call, &answers[side]);
-        if (what != NULL)
-            report(call, answers, (enum side)side, what);
-    }
-    uint32_t refusal = answers[REFERENCE].number[0];
-    if (what == NULL) {
-        hits[call->service][refusal]++;
-        noted_hits[call->service][refusal] += call->sides == SIDES;
-    }
-    return refusal;
-}
-
-/* A case whose number is known beforehand. */
-static void expect(struct call *call, uint32_t number)
-{
-    uint32_t given = compare(call);
-    if (given == number)
-        return;
-    printf("difference in case %lu, seed %" PRIu64 ", %s: the reference gives %" PRIu32 ", not %" PRIu32 "\n", cases, seed,
-           service_names[call->service], given, number);
-    print_strings(call);
-    differences++;
-    stop_after_many();
-}
-
-/* ---- Strings for a call. ---- */
-
-static void give(struct call *call, unsigned k, const struct file *file)
-{
-    call->content[k] = file->bytes;
-    call->length[k] = file->length;
-}
-
-/* Lends a buffer of noise. */
-static void lend_noise(struct call *call, unsigned k, size_t need, size_t length)
-{
-    call->content[k] = noise + roll(&dice, NOISE / 2);
-    call->length[k] = length;
-    call->written[k] = true;
-    call->need[k] = need;
-}
-
-/* Lends one that is as long as needed, one byte short, longer, much shorter or of no length. */
-static void lend_buffer(struct call *call, unsigned k, size_t need)
-{
-    unsigned kind = roll(&dice, 100);
-    size_t length = need;
-    if (kind < 15)
-        length = need == 0 ? 0 : need - 1;
-    else if (kind < 35)
-        length = need + 1 + roll(&dice, 40);
-    else if (kind < 40)
-        length = roll(&dice, (uint32_t)need + 1);
-    else if (kind < 43)
-        length = 0;
-    lend_noise(call, k, need, length);
-}
+/* ---- Tables and netlists for a call. ---- */
 
 static bool is_constant(const struct diagram *diagram, unsigned output)
 {
@@ -375,21 +87,6 @@ static void draw_diagram(struct diagram *diagram)
         largest_diagram(&dice, contacts, diagram);
     else
         random_diagram(&dice, contacts, 1 + roll(&dice, 8), diagram);
-}
-
-/* Puts notes into some files, and damages one of them in most. */
-static void damage_some_notes(struct file *file)
-{
-    static struct file plain;
-    if (!chance(&dice, 12))
-        return;
-    plain.length = file->length;
-    memcpy(plain.bytes, file->bytes, file->length);
-    put_notes(&dice, chance(&dice, 80) ? ANY_NOTE : NOTE_LIKE_FIELDS, EVERYWHERE, &plain, file);
-    if (chance(&dice, 80)) {
-        damage_note(&dice, file);
-        damaged_notes++;
-    }
 }
 
 /* A table: good, damaged, good but for some bytes, or random. */
@@ -605,43 +302,12 @@ static void note_drawing(const struct drawing *drawing)
     drawn.downward += downward;
 }
 
-/* One call with a buffer of some length; returns its number. */
-static uint32_t drawing_call(const struct file *file)
-{
-    uint8_t table[TABLE_MAX];
-    struct call call = {.service = FROM_DRAWING};
-    size_t need = ref_from_drawing(file->bytes, file->length, table, sizeof table).length;
-    give(&call, 0, file);
-    lend_buffer(&call, 1, need != 0 ? need : roll(&dice, TABLE_MAX + 1));
-    return compare(&call);
-}
-
 static void good_drawing(const struct drawing *drawing)
 {
     static struct file file;
     file.length = write_drawing(drawing, file.bytes);
-    if (drawing_call(&file) == 0)
+    if (call_maker(FROM_DRAWING, &file) == 0)
         note_drawing(drawing);
-}
-
-/* A drawing whose number is known, in buffers that are as long as needed, one byte short, longer, and of no length. The table, if one
- * is named, must be the answer. */
-static void expect_drawing(const struct file *file, uint32_t number, const struct file *table)
-{
-    uint8_t made[TABLE_MAX];
-    size_t need = ref_from_drawing(file->bytes, file->length, made, sizeof made).length;
-    need = need != 0 ? need : TABLE_MAX;
-    const size_t lengths[] = {need, need - 1, need + 1 + roll(&dice, 40), 0};
-    if (table != NULL && (need != table->length || memcmp(made, table->bytes, need) != 0)) {
-        printf("difference after case %lu, seed %" PRIu64 ": the reference makes another table than the drawing is of\n", cases, seed);
-        differences++;
-    }
-    for (unsigned k = 0; k < sizeof lengths / sizeof *lengths; k++) {
-        struct call call = {.service = FROM_DRAWING};
-        give(&call, 0, file);
-        lend_noise(&call, 1, need, lengths[k]);
-        expect(&call, number == 0 && lengths[k] < need ? 9 : number);
-    }
 }
 
 /* Drawings of an accepted table: as it is, and drawn otherwise with so many nodes. The table comes back. */
@@ -653,7 +319,7 @@ static void expect_table(const struct diagram *diagram, unsigned nodes)
     drawing_of(diagram, &drawing);
     for (unsigned k = 0; k < 2; k++) {
         file.length = write_drawing(&drawing, file.bytes);
-        expect_drawing(&file, 0, &table);
+        expect_made(FROM_DRAWING, &file, 0, &table);
         note_drawing(&drawing);
         redraw(&dice, nodes, &drawing);
     }
@@ -669,7 +335,7 @@ static void expect_wide(unsigned contacts, unsigned level, unsigned functions)
     wide_drawing(&dice, contacts, level, functions, &drawing);
     redraw(&dice, roll(&dice, 100), &drawing);
     file.length = write_drawing(&drawing, file.bytes);
-    expect_drawing(&file, functions > 8 ? 17 : 0, NULL);
+    expect_made(FROM_DRAWING, &file, functions > 8 ? 17 : 0, NULL);
     count_functions(&drawing, count);
     at_eight[contacts][level] += count[level] == 8;
     at_nine[contacts][level] += count[level] == 9;
@@ -681,7 +347,7 @@ static void expect_malformed(enum malformation kind, const struct drawing *good)
     if (kind == EDGE_TO_LOWER_LEVEL && good->contacts == 1)
         return;
     malformed_drawing(&dice, kind, good, &file);
-    expect_drawing(&file, 16, NULL);
+    expect_made(FROM_DRAWING, &file, 16, NULL);
     malformed[kind]++;
 }
 
@@ -697,7 +363,7 @@ static void expect_constants(unsigned contacts, unsigned outputs)
         insert_spare_contact(&diagram, 0);
     file.length = write_drawing(&drawing, file.bytes);
     table.length = table_of(&diagram, table.bytes);
-    expect_drawing(&file, 0, &table);
+    expect_made(FROM_DRAWING, &file, 0, &table);
     note_drawing(&drawing);
 }
 
@@ -752,7 +418,7 @@ static void drawing_case(void)
         else
             random_bytes(&dice, &file);
         damage_some_notes(&file);
-        drawing_call(&file);
+        call_maker(FROM_DRAWING, &file);
     }
 }
 
@@ -968,7 +634,7 @@ static void expect_good(const struct files *files, const struct file *table)
     expect_probed(&files->diagram, &files->table);
     for (unsigned lamp = 0; lamp < 2; lamp++)
         services_on_netlist(&files->netlist[lamp]);
-    expect_drawing(&files->drawing, 0, table);
+    expect_made(FROM_DRAWING, &files->drawing, 0, table);
 }
 
 /* The same files, each refused with its number. */
@@ -977,15 +643,14 @@ static void expect_all_refused(const struct files *files, uint32_t number)
     expect_refused_table(&files->table, number);
     for (unsigned lamp = 0; lamp < 2; lamp++)
         expect_refused(&files->netlist[lamp], 11);
-    expect_drawing(&files->drawing, 16, NULL);
+    expect_made(FROM_DRAWING, &files->drawing, 16, NULL);
 }
 
 /* Notes of every kind in every place: before each field, and after the last. Then nothing but such notes. */
 static void compare_notes_in_places(const struct files *files)
 {
     static const struct files nothing;
-    noting.percent = 100;
-    noting.any = false;
+    noting = (struct noting){.percent = 100};
     for (unsigned kind = 0; kind < NOTE_KINDS; kind++) {
         noting.kind = (enum note_kind)kind;
         for (noting.place = 0; noting.place <= 2 + files->diagram.contacts; noting.place++)
@@ -993,8 +658,7 @@ static void compare_notes_in_places(const struct files *files)
         noting.place = 0;
         expect_all_refused(&nothing, 2);
     }
-    noting.percent = 35;
-    noting.any = true;
+    noting = some_notes;
 }
 
 /* Each file with a note that is cut short. */
@@ -1123,6 +787,19 @@ static void check_some_drawing(void)
     stop_after_many();
 }
 
+/* A table made from a rule sheet; some sheets are spoilt. */
+static void check_some_rules(void)
+{
+    struct rules rules;
+    unsigned contacts = 1 + roll(&dice, chance(&dice, 70) ? 8 : 12), count = 1 + roll(&dice, MOST_RULES);
+    random_rules(&dice, contacts, 1 + roll(&dice, 8), count, roll(&dice, chance(&dice, 60) ? 6 : 2 * MOST_RULES), &rules);
+    if (rules.count > 1 && chance(&dice, 25))
+        spoil_rules(&dice, (enum sheet_fault)roll(&dice, SHEET_FAULTS), &rules);
+    snprintf(where, sizeof where, "rule sheet %lu, seed %" PRIu64, demands.rule_sheets, seed);
+    check_rules(&dice, &rules, &demands);
+    stop_after_many();
+}
+
 static void random_case(void)
 {
     unsigned kind = roll(&dice, 100);
@@ -1140,45 +817,13 @@ static void random_case(void)
         sheet_case();
     else if (kind < 75)
         drawing_case();
+    else if (kind < 79)
+        rules_case();
     else
         run_case();
 }
 
 /* ---- The summary. ---- */
-
-static bool print_hits(const char *title, unsigned long count[SERVICES][REFUSALS])
-{
-    bool all = true;
-    printf("%-15s", title);
-    for (unsigned number = 0; number < REFUSALS; number++)
-        printf("%7u", number);
-    printf("\n");
-    for (unsigned service = 0; service < SERVICES; service++) {
-        printf("%-15s", service_names[service]);
-        for (unsigned number = 0; number < REFUSALS; number++) {
-            bool can_be = possible[service] >> number & 1;
-            if (can_be)
-                printf("%7lu", count[service][number]);
-            else
-                printf("%7s", "-");
-            all = all && (!can_be || count[service][number] != 0);
-        }
-        printf("\n");
-    }
-    return all;
-}
-
-static bool print_counts(const char *what, const unsigned long *count, unsigned from, unsigned to)
-{
-    bool all = true;
-    printf("%s, %u to %u:", what, from, to);
-    for (unsigned i = from; i <= to; i++) {
-        printf(" %lu", count[i]);
-        all = all && count[i] != 0;
-    }
-    printf("\n");
-    return all;
-}
 
 /* How often there was a sheet of each size. */
 static bool print_sheets(void)
@@ -1201,29 +846,12 @@ static bool print_lamps(void)
     return all && lamps_of_constants != 0;
 }
 
-/* How often a level had just so many functions, from a level on; each that can have them must, for each count of contacts. */
-static bool print_wide(const char *what, unsigned long count[13][12], unsigned from)
-{
-    bool all = true;
-    printf("drawings with %s functions in a level, %u to 10:", what, from);
-    for (unsigned level = from; level <= 10; level++) {
-        unsigned long sum = 0;
-        for (unsigned contacts = level + 2; contacts <= 12; contacts++) {
-            sum += count[contacts][level];
-            all = all && count[contacts][level] != 0;
-        }
-        printf(" %lu", sum);
-    }
-    printf("\n");
-    return all;
-}
-
 static bool print_drawings(void)
 {
     bool all = print_counts("drawings by contacts", drawn_contacts, 1, 12);
     all = print_counts("malformed drawings by kind", malformed, 0, MALFORMATIONS - 1) && all;
-    all = print_wide("eight", at_eight, 0) && all;
-    all = print_wide("nine", at_nine, 1) && all;
+    all = print_wide("drawings with eight", at_eight, 0) && all;
+    all = print_wide("drawings with nine", at_nine, 1) && all;
     printf("drawings with no nodes: %lu, with 200: %lu, that skip levels: %lu, repeat nodes: %lu, have nodes that nothing mentions: "
            "%lu, constants as outputs: %lu, edges to a higher number: %lu, to a lower one: %lu\n",
            drawn.no_nodes, drawn.all_nodes, drawn.skipping, drawn.repeating, drawn.unmentioned, drawn.constant_outputs, drawn.upward,
@@ -1235,10 +863,18 @@ static bool print_drawings(void)
 static bool print_notes(void)
 {
     bool all = print_counts("files with notes by kind", noted_kinds, 0, NOTE_KINDS - 1);
-    all = print_counts("files with notes by place", noted_places, 0, 14) && all;
+    all = print_counts("files with notes by place", noted_places, 0, NOTED_PLACES - 1) && all;
     all = print_counts("notes cut short by kind", cut_notes, 0, CUT_KINDS - 1) && all;
     printf("damaged notes: %lu, fields of a tag more: passed over %lu, refused %lu\n", damaged_notes, tags_passed, tags_refused);
     return all && damaged_notes != 0 && tags_passed != 0 && tags_refused != 0;
+}
+
+static bool print_checked_rules(void)
+{
+    unsigned long refused = demands.shared + demands.unruled + demands.rules_too_wide;
+    printf("rule sheets checked by themselves: %lu, %lu of them with a shared input, %lu with one that fits none, %lu with more than eight "
+           "functions in a level\n", demands.rule_sheets, demands.shared, demands.unruled, demands.rules_too_wide);
+    return demands.shared != 0 && demands.unruled != 0 && demands.rules_too_wide != 0 && refused != demands.rule_sheets;
 }
 
 static int summary(void)
@@ -1257,6 +893,7 @@ static int summary(void)
     all = print_sheets() && all;
     all = print_lamps() && all;
     all = print_drawings() && all;
+    all = print_rules() && all;
     all = print_notes() && all;
     printf("boards checked by themselves: %lu, with %lu sheets, %lu runs, %lu sets of lines held one way, %lu probes, %lu of them of "
            "lines that nothing reads\n",
@@ -1269,8 +906,9 @@ static int summary(void)
     printf("drawings checked by themselves: %lu, %lu of them with more than eight functions in a level\n", demands.drawings,
            demands.too_wide);
     all = demands.too_wide != 0 && demands.too_wide != demands.drawings && all;
+    all = print_checked_rules() && all;
     if (!all)
-        printf("not every number that a service can give was hit, or a kind of table, sheet, lamp, drawing or note was missed\n");
+        printf("not every number that a service can give was hit, or a kind of table, sheet, lamp, drawing, rule sheet or note was missed\n");
     printf("%lu differences\n", differences + demands.failures);
     return all && differences + demands.failures == 0 ? 0 : 1;
 }
@@ -1306,6 +944,22 @@ static bool read_number(const char *text, uint64_t *number)
     return errno == 0 && *text >= '0' && *text <= '9' && *end == '\0';
 }
 
+/* What does not lie with the dice: every count of contacts and of outputs. */
+static void compare_all_kinds(void)
+{
+    for (unsigned contacts = 1; contacts <= 12; contacts++)
+        compare_spare_contacts(contacts);
+    for (unsigned outputs = 1; outputs <= 8; outputs++)
+        compare_lamps(outputs);
+    compare_known_rules();
+    for (unsigned contacts = 1; contacts <= 12; contacts++) {
+        compare_drawings(contacts);
+        compare_rules(contacts);
+        compare_notes(contacts);
+        compare_rule_notes(contacts);
+    }
+}
+
 int main(int argc, char **argv)
 {
     uint64_t count = 300000;
@@ -1315,20 +969,9 @@ int main(int argc, char **argv)
     }
     setvbuf(stdout, NULL, _IOLBF, 0);
     dice.state = seed;
-    for (size_t i = 0; i < NOISE; i++)
-        noise[i] = (uint8_t)roll(&dice, 256);
-    for (unsigned side = 0; side < SIDES; side++)
-        for (unsigned k = 0; k < STRINGS; k++)
-            open_lent(&lent[side][k]);
+    open_calls();
     watch_faults();
-    for (unsigned contacts = 1; contacts <= 12; contacts++)
-        compare_spare_contacts(contacts);
-    for (unsigned outputs = 1; outputs <= 8; outputs++)
-        compare_lamps(outputs);
-    for (unsigned contacts = 1; contacts <= 12; contacts++)
-        compare_drawings(contacts);
-    for (unsigned contacts = 1; contacts <= 12; contacts++)
-        compare_notes(contacts);
+    compare_all_kinds();
     count += cases; /* random ones, besides these */
     for (uint64_t i = 0; cases < count; i++) {
         random_case();
@@ -1341,11 +984,10 @@ int main(int argc, char **argv)
         if (i % 50 == 0) {
             check_some_board();
             check_some_drawing();
+            check_some_rules();
         }
     }
     int status = summary();
-    for (unsigned side = 0; side < SIDES; side++)
-        for (unsigned k = 0; k < STRINGS; k++)
-            close_lent(&lent[side][k]);
+    close_calls();
     return status;
 }

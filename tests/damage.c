@@ -2,122 +2,10 @@
 
 #include <string.h>
 
-/* ---- Bytes and fields. ---- */
-
-static unsigned two_bytes(const uint8_t *at)
-{
-    return 256u * at[0] + at[1];
-}
-
-static void set_two_bytes(uint8_t *at, unsigned number)
-{
-    at[0] = (uint8_t)(number / 256);
-    at[1] = (uint8_t)number;
-}
-
-static void add_byte(struct file *file, unsigned byte)
-{
-    file->bytes[file->length++] = (uint8_t)byte;
-}
-
-static void add_two(struct file *file, unsigned number)
-{
-    add_byte(file, number / 256);
-    add_byte(file, number);
-}
-
-static void add_head(struct file *file, unsigned tag, unsigned length)
-{
-    add_byte(file, tag);
-    add_two(file, length);
-}
-
-/* A byte that is often a plausible node, tag or kind. */
-static unsigned any_byte(struct dice *dice)
-{
-    return chance(dice, 60) ? roll(dice, 9) : roll(dice, 256);
-}
-
-/* A tag that is no note's. */
-static unsigned any_tag(struct dice *dice)
-{
-    return any_byte(dice) % NOTE_TAG;
-}
-
 /* A byte where only 0 and 1 are good. */
 static unsigned above_one(struct dice *dice)
 {
     return chance(dice, 50) ? 2 : 2 + roll(dice, 254);
-}
-
-static void erase(struct file *file, size_t at, size_t count)
-{
-    memmove(file->bytes + at, file->bytes + at + count, file->length - at - count);
-    file->length -= count;
-}
-
-/* Makes room at a place for bytes drawn at random. */
-static void insert(struct dice *dice, struct file *file, size_t at, size_t count)
-{
-    memmove(file->bytes + at + count, file->bytes + at, file->length - at);
-    file->length += count;
-    for (size_t i = 0; i < count; i++)
-        file->bytes[at + i] = (uint8_t)any_byte(dice);
-}
-
-static size_t field_length(const struct file *file, size_t at)
-{
-    return two_bytes(file->bytes + at + 1);
-}
-
-/* The place of the first field from a place on that is no note. */
-static size_t pass_notes(const struct file *file, size_t at)
-{
-    while (at < file->length && file->bytes[at] >= NOTE_TAG)
-        at += 3 + field_length(file, at);
-    return at;
-}
-
-/* The place of field k of a file of whole fields, notes not counted; its length if there are not so many. */
-static size_t field_place(const struct file *file, unsigned k)
-{
-    size_t at = pass_notes(file, 0);
-    while (k-- > 0 && at < file->length)
-        at = pass_notes(file, at + 3 + field_length(file, at));
-    return at;
-}
-
-static void erase_field(struct file *file, size_t at)
-{
-    if (at < file->length)
-        erase(file, at, 3 + field_length(file, at));
-}
-
-/* Gives a field another length, with bytes dropped at the value's end or added there. */
-static void resize_field(struct dice *dice, struct file *file, size_t at, size_t length)
-{
-    if (at >= file->length)
-        return;
-    size_t old = field_length(file, at);
-    if (length < old)
-        erase(file, at + 3 + length, old - length);
-    else
-        insert(dice, file, at + 3 + old, length - old);
-    set_two_bytes(file->bytes + at + 1, (unsigned)length);
-}
-
-static void set_tag(struct dice *dice, struct file *file, size_t at)
-{
-    if (at < file->length)
-        file->bytes[at] = (uint8_t)any_tag(dice);
-}
-
-static void add_field(struct dice *dice, struct file *file, size_t at)
-{
-    unsigned length = roll(dice, 5);
-    insert(dice, file, at, 3 + (size_t)length);
-    file->bytes[at] = (uint8_t)any_tag(dice);
-    set_two_bytes(file->bytes + at + 1, length);
 }
 
 /* ---- Damage to a diagram: questions 5 to 7. ---- */
@@ -308,126 +196,6 @@ void damaged_table(struct dice *dice, const struct diagram *good, struct file *f
             damage_at(dice, question, &d, file);
 }
 
-/* ---- Malformed drawings: question 16. ---- */
-
-/* A byte of `least` or more, often just that. */
-static unsigned at_least(struct dice *dice, unsigned least)
-{
-    return least + (chance(dice, 60) ? 0 : roll(dice, 256 - least));
-}
-
-/* The node's edges lead to constants, but for one that is wrong, or its level is. */
-static void spoil_node(struct dice *dice, enum malformation kind, struct drawing *d, unsigned node)
-{
-    unsigned level = d->node[node].level, wrong = roll(dice, 2);
-    if (kind == LEVEL_NOT_BELOW_N)
-        d->node[node].level = (uint8_t)at_least(dice, d->contacts);
-    else if (kind == EDGE_NOT_LISTED)
-        wrong = at_least(dice, 2 + d->nodes);
-    else if (kind == EDGE_TO_ITSELF)
-        wrong = 2 + node;
-    else
-        wrong = add_node(d, kind == EDGE_WITHIN_LEVEL ? level : roll(dice, level), roll(dice, 2), roll(dice, 2));
-    uint8_t *edge = d->node[node].edge;
-    edge[0] = edge[1] = (uint8_t)roll(dice, 2);
-    edge[roll(dice, 2)] = (uint8_t)wrong;
-}
-
-/* Spoils a node that nothing mentions, if that is the kind, and else one that is an output. */
-static void spoil_some_node(struct dice *dice, enum malformation kind, struct drawing *d)
-{
-    if (d->nodes == 0)
-        add_node(d, roll(dice, d->contacts), 0, 1);
-    unsigned node = roll(dice, d->nodes);
-    if (kind == EDGE_TO_LOWER_LEVEL && d->node[node].level == 0)
-        node = add_node(d, 1, 0, 1) - 2;
-    if (kind == UNMENTIONED_NODE) {
-        replace_mentions(d, 2 + node, roll(dice, 2));
-        kind = (enum malformation)(LEVEL_NOT_BELOW_N + roll(dice, EDGE_TO_LOWER_LEVEL - LEVEL_NOT_BELOW_N));
-    } else {
-        d->output[roll(dice, d->outputs)] = (uint8_t)(2 + node);
-    }
-    spoil_node(dice, kind, d, node);
-}
-
-/* Puts the second field behind the third. */
-static void exchange_fields(struct file *file)
-{
-    uint8_t outputs[3 + 8];
-    size_t length = field_place(file, 2) - 4;
-    memcpy(outputs, file->bytes + 4, length);
-    erase(file, 4, length);
-    memcpy(file->bytes + file->length, outputs, length);
-    file->length += length;
-}
-
-/* Fields too many, too few, in another sequence or with another tag. */
-static void spoil_drawing_fields(struct dice *dice, enum malformation kind, struct file *file)
-{
-    size_t at = field_place(file, roll(dice, 3));
-    uint8_t tag = file->bytes[at];
-    if (kind == FIELD_TOO_MANY)
-        add_field(dice, file, chance(dice, 50) ? at : file->length);
-    else if (kind == FIELD_MISSING)
-        erase_field(file, at);
-    else if (kind == FIELDS_EXCHANGED)
-        exchange_fields(file);
-    else
-        while (file->bytes[at] == tag)
-            set_tag(dice, file, at);
-}
-
-/* The counts of contacts, outputs and nodes. What is added would be good if there were fewer: outputs that are constants, nodes of
- * level 0 that lead to constants. */
-static void spoil_drawing_counts(struct dice *dice, enum malformation kind, struct file *file)
-{
-    size_t outputs = 4, nodes = field_place(file, 2), old = field_length(file, nodes);
-    if (kind == NO_CONTACTS) {
-        file->bytes[3] = 0;
-    } else if (kind == CONTACTS_ABOVE_12) {
-        file->bytes[3] = (uint8_t)at_least(dice, 13);
-    } else if (kind == CONTACTS_LENGTH) {
-        resize_field(dice, file, 0, chance(dice, 50) ? 0 : 2 + roll(dice, 3));
-    } else if (kind == NO_OUTPUTS) {
-        resize_field(dice, file, outputs, 0);
-    } else if (kind == OUTPUTS_ABOVE_8) {
-        resize_field(dice, file, outputs, at_least(dice, 9));
-        memset(file->bytes + outputs + 3, roll(dice, 2) != 0, field_length(file, outputs));
-    } else if (kind == PART_OF_A_NODE) {
-        resize_field(dice, file, nodes, old + 1 + roll(dice, 2));
-    } else {
-        resize_field(dice, file, nodes, 3 * (size_t)at_least(dice, MOST_NODES + 1));
-        memset(file->bytes + nodes + 3 + old, 0, field_length(file, nodes) - old);
-    }
-}
-
-static void spoil_drawing(struct dice *dice, enum malformation kind, struct file *file)
-{
-    size_t nodes = field_place(file, 2);
-    if (kind == NO_BYTES)
-        file->length = 0;
-    else if (kind == CUT_SHORT)
-        file->length = 1 + roll(dice, (uint32_t)file->length - 1);
-    else if (kind == BYTES_BEHIND)
-        insert(dice, file, file->length, 1 + roll(dice, 2));
-    else if (kind == OUTPUT_NOT_LISTED)
-        file->bytes[7 + roll(dice, (uint32_t)nodes - 7)] = (uint8_t)at_least(dice, 2 + (unsigned)field_length(file, nodes) / 3);
-    else if (kind < NO_CONTACTS)
-        spoil_drawing_fields(dice, kind, file);
-    else
-        spoil_drawing_counts(dice, kind, file);
-}
-
-void malformed_drawing(struct dice *dice, enum malformation kind, const struct drawing *good, struct file *file)
-{
-    struct drawing d = *good;
-    if (kind >= LEVEL_NOT_BELOW_N)
-        spoil_some_node(dice, kind, &d);
-    file->length = write_drawing(&d, file->bytes);
-    if (kind < LEVEL_NOT_BELOW_N)
-        spoil_drawing(dice, kind, file);
-}
-
 /* ---- Bytes without plan. ---- */
 
 void flip_bytes(struct dice *dice, struct file *file)
@@ -449,7 +217,7 @@ void random_fields(struct dice *dice, struct file *file)
         unsigned length = chance(dice, 30) ? 1 : roll(dice, 19);
         size_t at = file->length;
         insert(dice, file, at, 3 + (size_t)length);
-        file->bytes[at] = (uint8_t)(chance(dice, 90) ? 1 + roll(dice, 7) : roll(dice, 256));
+        file->bytes[at] = (uint8_t)(chance(dice, 90) ? 1 + roll(dice, 9) : roll(dice, 256));
         set_two_bytes(file->bytes + at + 1, length);
     }
 }
@@ -570,19 +338,6 @@ static void spoil_framing(struct dice *dice, struct file *file)
         spoil_contacts(dice, file);
 }
 
-/* Puts a field in another place, where the one with this number stands. */
-static void move_field(struct file *file, size_t at, unsigned to)
-{
-    uint8_t moved[3 + 4 * 8];
-    size_t length = 3 + field_length(file, at);
-    memcpy(moved, file->bytes + at, length);
-    erase(file, at, length);
-    at = field_place(file, to);
-    memmove(file->bytes + at + length, file->bytes + at, file->length - at);
-    memcpy(file->bytes + at, moved, length);
-    file->length += length;
-}
-
 /* A line that the netlist does not have, often the first of them. */
 static unsigned line_outside(struct dice *dice, unsigned lines)
 {
@@ -605,8 +360,7 @@ void damage_lamp(struct dice *dice, enum lamp_damage kind, struct file *file)
     } else if (kind == LAMP_FOR_OUTPUTS) {
         erase_field(file, field_place(file, 2));
     } else if (kind == LAMP_OF_ANOTHER_TAG) {
-        while (file->bytes[at] == 6)
-            set_tag(dice, file, at);
+        set_other_tag(dice, file, at);
     } else if (kind == FIELD_AFTER_LAMP) {
         add_field(dice, file, file->length);
     } else if (kind == BYTES_AFTER_LAMP) {
@@ -796,12 +550,6 @@ static void add_notes(struct dice *dice, enum note_kind kind, const struct file 
     }
 }
 
-/* Whether a field stands whole at a place. */
-static bool is_whole(const struct file *file, size_t at)
-{
-    return file->length - at >= 3 && field_length(file, at) <= file->length - at - 3;
-}
-
 static unsigned whole_fields(const struct file *file)
 {
     unsigned count = 0;
@@ -824,13 +572,6 @@ void put_notes(struct dice *dice, enum note_kind kind, unsigned place, const str
         noted->length += length;
         at += length;
     }
-}
-
-void put_field(struct dice *dice, unsigned tag, unsigned place, struct file *file)
-{
-    size_t at = field_place(file, place);
-    add_field(dice, file, at);
-    file->bytes[at] = (uint8_t)tag;
 }
 
 void cut_note(struct dice *dice, enum cut_kind kind, struct file *file)

@@ -2,27 +2,12 @@
 #ifndef DAMAGE_H
 #define DAMAGE_H
 
-#include "drawings.h"
+#include "edits.h"
 
-enum { FILE_ROOM = 400000, MOST_GATES = 10602, NOTE_TAG = 128 };
-
-struct file {
-    size_t length;
-    uint8_t bytes[FILE_ROOM];
-};
+enum { MOST_GATES = 10602 };
 
 /* A table damaged at one to three of the questions 1 to 7. */
 void damaged_table(struct dice *dice, const struct diagram *good, struct file *file);
-
-/* The ways in which a drawing can be malformed. */
-enum malformation {
-    NO_BYTES, CUT_SHORT, BYTES_BEHIND, FIELD_TOO_MANY, FIELD_MISSING, FIELDS_EXCHANGED, WRONG_TAG, NO_CONTACTS, CONTACTS_ABOVE_12,
-    CONTACTS_LENGTH, NO_OUTPUTS, OUTPUTS_ABOVE_8, OUTPUT_NOT_LISTED, PART_OF_A_NODE, NODES_ABOVE_200, LEVEL_NOT_BELOW_N,
-    EDGE_NOT_LISTED, EDGE_TO_ITSELF, EDGE_WITHIN_LEVEL, EDGE_TO_LOWER_LEVEL, UNMENTIONED_NODE, MALFORMATIONS
-};
-
-/* The file of a good drawing, of 2 contacts or more for EDGE_TO_LOWER_LEVEL and of 198 nodes at most, malformed in this way. */
-void malformed_drawing(struct dice *dice, enum malformation kind, const struct drawing *good, struct file *file);
 
 /* Sets up to three bytes anew. */
 void flip_bytes(struct dice *dice, struct file *file);
@@ -48,7 +33,7 @@ enum lamp_damage {
 void damage_lamp(struct dice *dice, enum lamp_damage kind, struct file *file);
 
 /* The counts of a netlist that gets a yes to question 11; of others some numbers. The lamp's pair is one of the pairs. The count of
- * contacts is that of a table or drawing, too. */
+ * contacts is that of a table, drawing or rule sheet, too. */
 unsigned contacts_of(const struct file *file);
 unsigned lines_of(const struct file *netlist);
 unsigned gates_of(const struct file *netlist);
@@ -80,9 +65,6 @@ enum { EVERYWHERE = 100, MOST_NOTED = 180000 };
 /* The file with notes before field `place`, after the last one if there are not so many, or at some places, at one at least. None is
  * put where the file would have MOST_NOTED bytes before it. What is cut short at the file's end stays there. */
 void put_notes(struct dice *dice, enum note_kind kind, unsigned place, const struct file *file, struct file *noted);
-
-/* Puts a field of this tag before field `place` of a file of whole fields. */
-void put_field(struct dice *dice, unsigned tag, unsigned place, struct file *file);
 
 /* The ways in which a note can be cut short: as the last field, or before other fields with a length that runs past the end. */
 enum cut_kind {

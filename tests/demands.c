@@ -1,7 +1,6 @@
 #include "demands.h"
 
 #include <inttypes.h>
-#include <stdarg.h>
 #include <stdio.h>
 #include <string.h>
 
@@ -29,8 +28,7 @@ static uint8_t pairs[PILGODUR_PAIRS_MAX];
 static uint8_t probed_bytes[PILGODUR_FILE_MAX + PILGODUR_LINES_MAX];
 static bool is_read[PILGODUR_LINES_MAX]; /* by some gate or output of the netlist */
 
-/* Says which demand is not met, and by which file. */
-static void report(const char *what, va_list args, const char *kind, const uint8_t *file, size_t length)
+void report_demand(struct demands *demands, const char *what, va_list args, const char *kind, const uint8_t *file, size_t length)
 {
     fputs("demand not met: ", stdout);
     vprintf(what, args);
@@ -38,22 +36,17 @@ static void report(const char *what, va_list args, const char *kind, const uint8
     for (size_t i = 0; i < length; i++)
         printf("%02x", file[i]);
     fputs("\n", stdout);
+    demands->failures++;
 }
 
 __attribute__((format(printf, 2, 3)))
 static bool fail(const struct board *board, const char *what, ...)
 {
     va_list args;
-    board->demands->failures++;
     va_start(args, what);
-    report(what, args, "table", board->table, board->table_length);
+    report_demand(board->demands, what, args, "table", board->table, board->table_length);
     va_end(args);
     return false;
-}
-
-static unsigned two_bytes(const uint8_t *at)
-{
-    return 256u * at[0] + at[1];
 }
 
 /* ---- The netlist: counts, depth and formulas. ---- */
@@ -508,95 +501,4 @@ void check_board(struct dice *dice, const struct diagram *diagram, struct demand
     if (build_board(&board) && check_what_is_read(&board) && check_new_netlist(&board) &&
         check_sheet(&board, &netlist) && check_all_permits(dice, &board) && check_hold_sets(dice, &board) && check_lamp(dice, &board))
         check_probes(&board);
-}
-
-/* ---- Drawings. ---- */
-
-struct drawn {
-    const struct drawing *drawing;
-    uint8_t file[DRAWING_MAX];
-    size_t file_length;
-    uint8_t table[PILGODUR_TABLE_MAX];
-    pilgodur_built built;
-};
-
-__attribute__((format(printf, 3, 4)))
-static bool fail_drawn(const struct drawn *drawn, struct demands *demands, const char *what, ...)
-{
-    va_list args;
-    va_start(args, what);
-    report(what, args, "drawing", drawn->file, drawn->file_length);
-    va_end(args);
-    demands->failures++;
-    return false;
-}
-
-static void make_table(const struct drawing *drawing, struct drawn *drawn)
-{
-    drawn->drawing = drawing;
-    drawn->file_length = write_drawing(drawing, drawn->file);
-    drawn->built = pilgodur_from_drawing(drawn->file, drawn->file_length, drawn->table, sizeof drawn->table);
-}
-
-static bool is_too_wide(const struct drawing *drawing)
-{
-    unsigned functions[12];
-    bool too_wide = false;
-    count_functions(drawing, functions);
-    for (unsigned level = 0; level < drawing->contacts; level++)
-        too_wide = too_wide || functions[level] > 8;
-    return too_wide;
-}
-
-static bool check_words(struct dice *dice, const struct drawn *drawn, struct demands *demands)
-{
-    uint32_t inputs = 1u << drawn->drawing->contacts;
-    bool all = inputs <= 256 || chance(dice, 12);
-    for (uint32_t i = 0; i < (all ? inputs : SOME_INPUTS); i++) {
-        uint32_t input = all ? i : roll(dice, inputs);
-        pilgodur_reading reading = pilgodur_read_off(drawn->table, drawn->built.length, input);
-        if (reading.refusal != 0 || reading.word != drawn_word(drawn->drawing, input))
-            return fail_drawn(drawn, demands, "input %" PRIu32 ": the drawing gives %" PRIu32 ", its table %" PRIu32, input,
-                              drawn_word(drawn->drawing, input), reading.word);
-    }
-    return true;
-}
-
-/* Another drawing of the same functions: the same table, hence the same netlist. */
-static bool check_redrawn(struct dice *dice, const struct drawn *drawn, struct demands *demands)
-{
-    static uint8_t file[2][PILGODUR_FILE_MAX];
-    struct drawing other = *drawn->drawing;
-    struct drawn again;
-    redraw(dice, roll(dice, MOST_NODES + 1), &other);
-    make_table(&other, &again);
-    if (again.built.refusal != 0 || again.built.length != drawn->built.length ||
-        memcmp(again.table, drawn->table, again.built.length) != 0)
-        return fail_drawn(drawn, demands, "another drawing of the same functions has another table");
-    pilgodur_built first = pilgodur_build(drawn->table, drawn->built.length, file[0], sizeof file[0]);
-    pilgodur_built second = pilgodur_build(again.table, again.built.length, file[1], sizeof file[1]);
-    if (first.refusal != 0 || second.refusal != 0 || first.length != second.length || memcmp(file[0], file[1], first.length) != 0)
-        return fail_drawn(drawn, demands, "another drawing of the same functions has another netlist");
-    return true;
-}
-
-void check_drawing(struct dice *dice, const struct drawing *drawing, struct demands *demands)
-{
-    struct drawn drawn;
-    bool too_wide = is_too_wide(drawing);
-    demands->drawings++;
-    demands->too_wide += too_wide;
-    make_table(drawing, &drawn);
-    if (drawn.built.refusal != (too_wide ? PILGODUR_REFUSAL_FUNCTIONS : 0)) {
-        fail_drawn(&drawn, demands, "a drawing with %s eight functions in a level gives %" PRIu32,
-                   too_wide ? "more than" : "at most", drawn.built.refusal);
-        return;
-    }
-    if (too_wide)
-        return;
-    pilgodur_checked checked = pilgodur_check(drawn.table, drawn.built.length);
-    if (checked.refusal != 0 || checked.contacts != drawing->contacts || checked.outputs != drawing->outputs)
-        fail_drawn(&drawn, demands, "check of its table gives %" PRIu32 ", or other contacts or outputs", checked.refusal);
-    else if (check_words(dice, &drawn, demands))
-        check_redrawn(dice, &drawn, demands);
 }

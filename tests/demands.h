@@ -1,13 +1,16 @@
-/* The demands, asked of boards that the library builds and of tables that it makes from drawings, with no other implementation beside
- * it. */
+/* The demands, asked of boards that the library builds and of tables that it makes from drawings and rule sheets, with no other
+ * implementation beside it. */
 #ifndef DEMANDS_H
 #define DEMANDS_H
 
-#include "drawings.h"
+#include <stdarg.h>
+
+#include "rulesheets.h"
 
 struct demands {
     unsigned long boards, sheets, inputs, hold_sets, probes, unread, drawings, too_wide, failures;
     unsigned long lamp_runs, lamp_codes, lamp_one_way, lamp_no_codes, lamp_seen;
+    unsigned long rule_sheets, shared, unruled, rules_too_wide;
 };
 
 /* Builds the board of an accepted diagram and checks
@@ -30,5 +33,18 @@ void check_board(struct dice *dice, const struct diagram *diagram, struct demand
  *   that read-off gives the drawing's word at every input, or for many contacts at some;
  *   that another drawing of the same functions has the same table and the same netlist. */
 void check_drawing(struct dice *dice, const struct drawing *drawing, struct demands *demands);
+
+/* Makes the table of a well-formed rule sheet and checks
+ *   that question 19 refuses it exactly if no contact parts some two rules, and 20 exactly if it does not and the inputs of all rules are
+ *   together fewer than there are;
+ *   that question 17 then refuses it exactly if truth tables show more than eight functions in a level;
+ *   that the same rules in another sequence have the same answer, and so has a sheet with some of them split in two;
+ *   that a drawing of the same functions has the same answer;
+ *   that check accepts the table, with the sheet's contacts and outputs;
+ *   that at every input, or for many contacts at some, just one rule fits and read-off gives its word. */
+void check_rules(struct dice *dice, const struct rules *rules, struct demands *demands);
+
+/* Says which demand is not met, and by which file of this kind, and counts it. */
+void report_demand(struct demands *demands, const char *what, va_list args, const char *kind, const uint8_t *file, size_t length);
 
 #endif

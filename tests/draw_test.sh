@@ -35,7 +35,7 @@ while [ $((seed = seed + 1)) -le 60 ]; do
     esac
 done
 
-# The kinds of tests/damage.h. A message names the file, then what is wrong; of a text's node also its line.
+# The kinds of tests/malformed.h. A message names the file, then what is wrong; of a text's node also its line.
 malformed=0 as_text=0
 kind=-1
 while [ $((kind = kind + 1)) -le 20 ]; do

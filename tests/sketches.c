@@ -1,5 +1,5 @@
 /* Writes a random drawing to standard output: its bytes, these with notes put in, or its text form with names, blanks, comments and line
- * ends of every kind. With a KIND it is malformed in that way (tests/damage.h).
+ * ends of every kind. With a KIND it is malformed in that way (tests/malformed.h).
  *
  *     sketches SEED bytes|noted|text [KIND]    exit status 1: the text form has no such drawing; 2: bad usage */
 #include <stdio.h>
@@ -7,6 +7,7 @@
 #include <string.h>
 
 #include "damage.h"
+#include "malformed.h"
 
 static struct dice dice;
 

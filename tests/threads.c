@@ -10,12 +10,12 @@
 #include <string.h>
 
 #include "../include/pilgodur.h"
-#include "drawings.h"
+#include "rulesheets.h"
 
 enum { THREADS = 8, BOARDS = 24, BUFFER = PILGODUR_FILE_MAX + PILGODUR_LINES_MAX };
 enum { STACK = 512 * 1024 }; /* the header says 270 KB for probe */
 
-/* What all threads read: a table, its netlist, rails, holds, an input and a drawing, some of them damaged. */
+/* What all threads read: a table, its netlist, rails, holds, an input, a drawing and a rule sheet, some of them damaged. */
 struct board {
     uint8_t table[TABLE_MAX];
     size_t table_length;
@@ -28,6 +28,8 @@ struct board {
     uint32_t input;
     uint8_t drawing[DRAWING_MAX];
     size_t drawing_length;
+    uint8_t rules[RULES_MAX];
+    size_t rules_length;
 };
 
 /* What the services answer on a board. */
@@ -40,6 +42,7 @@ struct answers {
     pilgodur_probed probed;
     pilgodur_built sheet;
     pilgodur_built drawn;
+    pilgodur_built ruled;
     uint8_t file[PILGODUR_FILE_MAX];
     uint8_t file_with_lamp[PILGODUR_FILE_MAX];
     uint8_t lines[PILGODUR_LINES_MAX];
@@ -47,6 +50,7 @@ struct answers {
     uint8_t probe[BUFFER];
     uint8_t text[PILGODUR_SHEET_MAX];
     uint8_t table[PILGODUR_TABLE_MAX];
+    uint8_t table_of_rules[PILGODUR_TABLE_MAX];
 };
 
 static struct board boards[BOARDS];
@@ -66,6 +70,18 @@ static void ask(const struct board *b, struct answers *a)
     a->probed = pilgodur_probe(b->table, b->table_length, b->hold, sizeof b->hold, a->probe, sizeof a->probe);
     a->sheet = pilgodur_sheet(b->netlist, b->netlist_length, a->text, sizeof a->text);
     a->drawn = pilgodur_from_drawing(b->drawing, b->drawing_length, a->table, sizeof a->table);
+    a->ruled = pilgodur_from_rules(b->rules, b->rules_length, a->table_of_rules, sizeof a->table_of_rules);
+}
+
+static void draw_rule_sheet(struct dice *dice, struct board *b)
+{
+    struct diagram diagram;
+    struct rules rules;
+    ruled_diagram(dice, 1 + roll(dice, 12), 1 + roll(dice, 8), &diagram, &rules);
+    split_rules(dice, roll(dice, MOST_RULES + 1), &rules);
+    b->rules_length = write_rules(&rules, b->rules);
+    if (chance(dice, 20))
+        b->rules[roll(dice, (uint32_t)b->rules_length)] ^= 1;
 }
 
 static void draw_board(struct dice *dice, struct board *b)
@@ -93,6 +109,7 @@ static void draw_board(struct dice *dice, struct board *b)
         b->drawing[roll(dice, (uint32_t)b->drawing_length)] ^= 1;
     if (chance(dice, 20))
         b->table[roll(dice, (uint32_t)b->table_length)] ^= 1;
+    draw_rule_sheet(dice, b);
 }
 
 /* Returns NULL if every answer is as expected. */
@@ -150,7 +167,7 @@ int main(int argc, char **argv)
 {
     static const char *const verdict[] = {"DIFFERENT ANSWERS", "the same answers"};
     struct dice dice = {1};
-    unsigned accepted = 0, lamps = 0, unread = 0, drawn = 0;
+    unsigned accepted = 0, lamps = 0, unread = 0, drawn = 0, ruled = 0;
     if (argc > 1)
         rounds = (unsigned)strtoul(argv[1], NULL, 10);
     for (unsigned i = 0; i < BOARDS; i++) {
@@ -160,13 +177,14 @@ int main(int argc, char **argv)
         lamps += boards[i].has_lamp;
         unread += expected[i].probed.refusal == PILGODUR_REFUSAL_UNREAD;
         drawn += expected[i].drawn.refusal == 0;
+        ruled += expected[i].ruled.refusal == 0;
     }
     bool threads_agree = run_threads();
     bool overlaps_agree = overlaps();
-    printf("threads: %d threads, %d boards (%u accepted, %u netlists with a lamp, %u with a spare rail held, %u with a good drawing), "
-           "%u rounds: %s; overlapping strings: %s\n",
-           THREADS, BOARDS, accepted, lamps, unread, drawn, rounds, verdict[threads_agree], verdict[overlaps_agree]);
+    printf("threads: %d threads, %d boards (%u accepted, %u netlists with a lamp, %u with a spare rail held, %u with a good drawing, %u "
+           "with a good rule sheet), %u rounds: %s; overlapping strings: %s\n",
+           THREADS, BOARDS, accepted, lamps, unread, drawn, ruled, rounds, verdict[threads_agree], verdict[overlaps_agree]);
     bool all_kinds = accepted > BOARDS / 2 && accepted < BOARDS && lamps > 0 && lamps < BOARDS && unread > 0 &&
-                     drawn > BOARDS / 2 && drawn < BOARDS;
+                     drawn > BOARDS / 2 && drawn < BOARDS && ruled > BOARDS / 2 && ruled < BOARDS;
     return threads_agree && overlaps_agree && all_kinds ? 0 : 1;
 }
