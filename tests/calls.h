@@ -66,8 +66,8 @@ void damage_some_notes(struct file *file);
 /* One call of a service that makes a table of a file, with a buffer of some length; returns its number. */
 uint32_t call_maker(enum service service, const struct file *file);
 
-/* The same with a number that is known, in buffers that are as long as needed, one byte short, longer, and of no length. The table, if one
- * is named, must be the answer. */
+/* The same with a number that is known, in buffers that are as long as needed, one byte short, longer, and of no length. The table, if
+ * one is named, must be the answer. */
 void expect_made(enum service service, const struct file *file, uint32_t number, const struct file *table);
 
 /* Each prints how often something was hit and returns whether nothing was missed. */

@@ -872,8 +872,8 @@ static bool print_notes(void)
 static bool print_checked_rules(void)
 {
     unsigned long refused = demands.shared + demands.unruled + demands.rules_too_wide;
-    printf("rule sheets checked by themselves: %lu, %lu of them with a shared input, %lu with one that fits none, %lu with more than eight "
-           "functions in a level\n", demands.rule_sheets, demands.shared, demands.unruled, demands.rules_too_wide);
+    printf("rule sheets checked by themselves: %lu, %lu of them with a shared input, %lu with one that fits none, %lu with more than "
+           "eight functions in a level\n", demands.rule_sheets, demands.shared, demands.unruled, demands.rules_too_wide);
     return demands.shared != 0 && demands.unruled != 0 && demands.rules_too_wide != 0 && refused != demands.rule_sheets;
 }
 
@@ -908,7 +908,8 @@ static int summary(void)
     all = demands.too_wide != 0 && demands.too_wide != demands.drawings && all;
     all = print_checked_rules() && all;
     if (!all)
-        printf("not every number that a service can give was hit, or a kind of table, sheet, lamp, drawing, rule sheet or note was missed\n");
+        printf("not every number that a service can give was hit, or a kind of table, sheet, lamp, drawing, rule sheet or note was "
+               "missed\n");
     printf("%lu differences\n", differences + demands.failures);
     return all && differences + demands.failures == 0 ? 0 : 1;
 }

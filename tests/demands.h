@@ -35,8 +35,8 @@ void check_board(struct dice *dice, const struct diagram *diagram, struct demand
 void check_drawing(struct dice *dice, const struct drawing *drawing, struct demands *demands);
 
 /* Makes the table of a well-formed rule sheet and checks
- *   that question 19 refuses it exactly if no contact parts some two rules, and 20 exactly if it does not and the inputs of all rules are
- *   together fewer than there are;
+ *   that question 19 refuses it exactly if no contact parts some two rules, and 20 exactly if it does not and the inputs of all
+ *   rules are together fewer than there are;
  *   that question 17 then refuses it exactly if truth tables show more than eight functions in a level;
  *   that the same rules in another sequence have the same answer, and so has a sheet with some of them split in two;
  *   that a drawing of the same functions has the same answer;

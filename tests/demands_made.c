@@ -128,8 +128,9 @@ void check_drawing(struct dice *dice, const struct drawing *drawing, struct dema
 
 /* ---- Rule sheets. ---- */
 
-/* The number that a well-formed sheet must get. With at most eight functions in each of 12 levels there are at most 96 nodes that are not
- * alike, so a sheet that cannot be drawn has more. If the number is 0 or 17 the drawing is there, with 200 nodes if it cannot be drawn. */
+/* The number that a well-formed sheet must get. With at most eight functions in each of 12 levels there are at most 96 nodes, none of
+ * them alike, so a sheet that cannot be drawn has more. If the number is 0 or 17 the drawing is there; it has 200 nodes if it is not
+ * whole. */
 static uint32_t number_of(const struct rules *rules, struct drawing *drawing)
 {
     uint32_t inputs = 0;

@@ -16,8 +16,8 @@ enum malformation {
 /* The file of a good drawing, of 2 contacts or more for EDGE_TO_LOWER_LEVEL and of 198 nodes at most, malformed in this way. */
 void malformed_drawing(struct dice *dice, enum malformation kind, const struct drawing *good, struct file *file);
 
-/* The ways in which a rule sheet can be malformed: what ends it, fields that are missing, moved, doubled or of another tag, the lengths of
- * fields, and what stands in them. */
+/* The ways in which a rule sheet can be malformed: what ends it, fields that are missing, moved, doubled or of another tag, the lengths
+ * of fields, and what stands in them. */
 enum sheet_malformation {
     SHEET_NO_BYTES, SHEET_CUT_WITHIN_FIELD, SHEET_BYTES_BEHIND, SHEET_FIELD_PAST_END,
     SHEET_NO_TAG_1, SHEET_NO_TAG_8, SHEET_NO_RULE, SHEET_RULES_ALONE, SHEET_TAG_8_FIRST, SHEET_TAG_1_LATER, SHEET_TAG_8_LATER,

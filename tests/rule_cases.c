@@ -437,7 +437,7 @@ bool print_rules(void)
     all = print_wide("rule sheets with eight", at_eight, 0) && all;
     all = print_wide("rule sheets with nine", at_nine, 1) && all;
     all = print_counts("notes cut short in rule sheets by kind", cut_notes, 0, CUT_KINDS - 1) && all;
-    printf("rule sheets worked out by hand: %lu, of a few rules: %lu, with every value of a byte: %lu, of an accepted table: %lu, with a "
-           "field of a tag more: passed over %lu, refused %lu\n", known, tiny, values, tables_given_back, tags_passed, tags_refused);
+    printf("rule sheets worked out by hand: %lu, of a few rules: %lu, with every value of a byte: %lu, of an accepted table: %lu, with "
+           "a field of a tag more: passed over %lu, refused %lu\n", known, tiny, values, tables_given_back, tags_passed, tags_refused);
     return all && known != 0 && tiny != 0 && values != 0 && tables_given_back != 0 && tags_passed != 0 && tags_refused != 0;
 }
