@@ -17,6 +17,7 @@
 #include <unistd.h>
 
 #include "calls.h"
+#include "edits.h"
 #include "malformed.h"
 #include "reference.h"
 #include "rule_cases.h"

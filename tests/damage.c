@@ -2,6 +2,8 @@
 
 #include <string.h>
 
+#include "edits.h"
+
 /* A byte where only 0 and 1 are good. */
 static unsigned above_one(struct dice *dice)
 {

@@ -2,7 +2,8 @@
 #ifndef DAMAGE_H
 #define DAMAGE_H
 
-#include "edits.h"
+#include "file.h"
+#include "tables.h"
 
 enum { MOST_GATES = 10602 };
 

@@ -6,6 +6,7 @@
 
 #include "../include/pilgodur.h"
 #include "damage.h"
+#include "edits.h"
 
 enum { SMALL_BOARD = 60, SMALL_WORK = 100000, SOME_INPUTS = 16, HOLD_SETS = 12, SEEN = 1 << 17, ROW = 22 };
 enum { PLAIN_GATES = 10560 }; /* of a board without the lamp, at most */

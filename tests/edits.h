@@ -2,14 +2,8 @@
 #ifndef EDITS_H
 #define EDITS_H
 
+#include "file.h"
 #include "tables.h"
-
-enum { FILE_ROOM = 400000, NOTE_TAG = 128 };
-
-struct file {
-    size_t length;
-    uint8_t bytes[FILE_ROOM];
-};
 
 static inline unsigned two_bytes(const uint8_t *at)
 {

@@ -2,6 +2,8 @@
 
 #include <string.h>
 
+#include "edits.h"
+
 /* ---- Drawings. ---- */
 
 /* The node's edges lead to constants, but for one that is wrong, or its level is. */

@@ -3,7 +3,7 @@
 #define MALFORMED_H
 
 #include "drawings.h"
-#include "edits.h"
+#include "file.h"
 #include "rulesheets.h"
 
 /* The ways in which a drawing can be malformed. */

@@ -4,6 +4,7 @@
 #include <string.h>
 
 #include "calls.h"
+#include "edits.h"
 #include "malformed.h"
 #include "reference.h"
 
