@@ -11,7 +11,7 @@
 enum { SHARED = PILGODUR_REFUSAL_SHARED, UNRULED = PILGODUR_REFUSAL_UNRULED, MALFORMED = PILGODUR_REFUSAL_RULES };
 
 static unsigned long accepted_contacts[13], accepted_outputs[9], accepted_rules[MOST_RULES + 1];
-static unsigned long malformed[SHEET_MALFORMATIONS], faults[SHEET_FAULTS];
+static unsigned long malformed[SHEET_MALFORMATIONS], faults[SHEET_FAULTS], doubled_places[MOST_RULES];
 static unsigned long at_eight[13][12], at_nine[13][12]; /* sheets by contacts and level */
 static unsigned long known, tiny, values, tables_given_back, cut_notes[CUT_KINDS], tags_passed, tags_refused;
 
@@ -180,6 +180,20 @@ static void compare_every_condition(unsigned contacts)
         }
 }
 
+/* Sheets of 64 rules of which just two are alike: the one at each place, and any other. */
+static void compare_every_place(void)
+{
+    struct rules rules;
+    for (unsigned place = 0; place < MOST_RULES; place++) {
+        unsigned other = (place + 1 + roll(&dice, MOST_RULES - 1)) % MOST_RULES;
+        random_rules(&dice, 6 + roll(&dice, 7), 1 + roll(&dice, 8), MOST_RULES - 1, 2, &rules);
+        rules.rule[rules.count++] = rules.rule[place];
+        rules.rule[place] = rules.rule[other];
+        expect_rules(&rules, SHARED);
+        doubled_places[place]++;
+    }
+}
+
 void compare_known_rules(void)
 {
     compare_selector();
@@ -193,6 +207,7 @@ void compare_known_rules(void)
         compare_every_word(outputs);
     for (unsigned contacts = 1; contacts <= 3; contacts++)
         compare_every_condition(contacts);
+    compare_every_place();
 }
 
 /* ---- Sheets of every size. ---- */
@@ -435,6 +450,7 @@ bool print_rules(void)
     all = print_counts("accepted rule sheets by rules", accepted_rules, 1, MOST_RULES) && all;
     all = print_counts("malformed rule sheets by kind", malformed, 0, SHEET_MALFORMATIONS - 1) && all;
     all = print_counts("rule sheets with a shared input or one that fits none, by kind", faults, 0, SHEET_FAULTS - 1) && all;
+    all = print_counts("sheets of 64 rules with one twice, by its place", doubled_places, 0, MOST_RULES - 1) && all;
     all = print_wide("rule sheets with eight", at_eight, 0) && all;
     all = print_wide("rule sheets with nine", at_nine, 1) && all;
     all = print_counts("notes cut short in rule sheets by kind", cut_notes, 0, CUT_KINDS - 1) && all;

@@ -4,8 +4,8 @@
 
 #include <stdbool.h>
 
-/* Sheets whose tables or refusals were worked out by hand, every sheet of a few rules for one and two contacts, and every value of each
- * byte of a small sheet. */
+/* Sheets whose tables or refusals were worked out by hand, every sheet of a few rules for one and two contacts, every value of each byte
+ * of a small sheet, and sheets of 64 rules of which one stands there twice. */
 void compare_known_rules(void);
 
 /* For so many contacts: one rule alone, sheets of up to 64 rules, also with just so many functions in each level, sheets malformed in
