@@ -1,42 +1,16 @@
 /* The text form of a drawing. All lines are split into words before names become numbers, since a name may be used before its line. */
 #include "drawing.h"
 
-#include <stdarg.h>
-#include <stdio.h>
 #include <stdlib.h>
 #include <string.h>
 
-#include "../include/pilgodur.h"
 #include "fields.h"
 #include "report.h"
+#include "text.h"
 
 enum { LONGEST_SHOWN = 40, FIRST_ROOM = 64 };
 
-/* Says what is wrong on a line, and ends the program. */
-__attribute__((format(printf, 3, 4)))
-static _Noreturn void reject(const char *file, unsigned line, const char *format, ...)
-{
-    char text[200];
-    va_list args;
-    va_start(args, format);
-    vsnprintf(text, sizeof text, format, args);
-    va_end(args);
-    fail(FAILED, "%s: line %u: %s", file, line, text);
-}
-
 /* ---- Words. ---- */
-
-/* A line from its next word on, without its comment. */
-struct line {
-    const char *file;
-    unsigned number; /* from 1 */
-    const char *at, *end;
-};
-
-static bool is_blank(char c)
-{
-    return c == ' ' || c == '\t' || c == '\r';
-}
 
 static bool is_of_a_word(char c)
 {
@@ -141,29 +115,6 @@ static uint8_t number_of(const struct drawing *drawing, const struct names *name
 
 /* ---- Lines. ---- */
 
-/* A text of which the lines before `at` are taken, the last of them as `line`. */
-struct text {
-    const char *at, *end;
-    struct line line;
-};
-
-/* Takes the next line that has words; false if there is none. */
-static bool next_line(struct text *text)
-{
-    while (text->at < text->end) {
-        const char *feed = memchr(text->at, '\n', (size_t)(text->end - text->at));
-        const char *end = feed != NULL ? feed : text->end;
-        const char *comment = memchr(text->at, '#', (size_t)(end - text->at));
-        text->line = (struct line){text->line.file, text->line.number + 1, text->at, comment != NULL ? comment : end};
-        text->at = feed != NULL ? feed + 1 : text->end;
-        struct line line = text->line;
-        struct word word;
-        if (next_word(&line, &word))
-            return true;
-    }
-    return false;
-}
-
 /* contacts N */
 static uint8_t read_contacts(struct text *text)
 {
@@ -261,8 +212,7 @@ static uint8_t *put_nodes(const struct names *names, const struct drawing *drawi
 
 static void read_text(const struct file *file, struct drawing *drawing)
 {
-    const char *start = (const char *)file->at;
-    struct text text = {.at = start, .end = start + file->length, .line = {.file = file->name}};
+    struct text text = text_in(file);
     uint8_t *put = put_head(drawing->made, 1, 1);
     *put++ = read_contacts(&text);
     struct line outputs = read_outputs(&text);
@@ -274,12 +224,6 @@ static void read_text(const struct file *file, struct drawing *drawing)
     drawing->is_text = true;
     drawing->bytes = drawing->made;
     drawing->length = (size_t)(put - drawing->made);
-}
-
-bool is_text(const struct file *file)
-{
-    uint8_t first = file->length > 0 ? file->at[0] : 0;
-    return (' ' <= first && first < PILGODUR_NOTE_TAG) || memchr("\t\r\n", first, 3) != NULL;
 }
 
 void read_drawing(const struct file *file, struct drawing *drawing)

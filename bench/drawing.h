@@ -30,9 +30,6 @@ struct drawing {
     uint8_t made[4 + (3 + DRAWING_OUTPUTS + 1) + (3 + 3 * (DRAWING_NODES + 1))];
 };
 
-/* Whether a file begins with a sign of text, which no table, netlist or drawing does, nor a note. */
-bool is_text(const struct file *file);
-
 /* Reads the drawing in a file: text if it begins like that, else the drawing's bytes. Text of another form ends the program. */
 void read_drawing(const struct file *file, struct drawing *drawing);
 

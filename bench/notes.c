@@ -1,8 +1,8 @@
 /* The command that shows the notes of a file. */
 #include "../include/pilgodur.h"
 #include "commands.h"
-#include "drawing.h"
 #include "fields.h"
+#include "text.h"
 
 /* Printable ASCII as it is, but for the quotation mark and the backslash, which get a backslash before them; any other byte as \x and
  * two hex digits. */
