@@ -29,7 +29,7 @@ const struct file *load_operand(struct request *request, int operand);
 
 typedef enum status command(struct request *request, FILE *out);
 
-command draw;                                /* draw.c */
+command draw, rules;                         /* draw.c, rules.c */
 command check, build, read_off, probe;       /* on_table.c */
 command list, run;                           /* on_netlist.c */
 command compare, dictionary, export_netlist; /* compare.c, dictionary.c, export.c */

@@ -22,6 +22,7 @@ static const struct {
     unsigned takes;
 } commands[] = {
     {"draw", draw, 1, 1, TAKES_OUTPUT},
+    {"rules", rules, 1, 1, TAKES_OUTPUT},
     {"check", check, 1, 1, 0},
     {"build", build, 1, 1, TAKES_OUTPUT | TAKES_LAMP | TAKES_NOTE},
     {"list", list, 1, 1, TAKES_LAMP},
@@ -47,6 +48,7 @@ static const char help[] =
     "usage: pilgodur COMMAND OPERAND... [OPTION...]\n"
     "\n"
     "  draw DRAWING [-o TABLE]         make the table of a drawing; without -o show it as hex: text\n"
+    "  rules RULES [-o TABLE]          make the table of a rule sheet; without -o show it as hex: text\n"
     "  check TABLE                     ask the table's questions; show contacts, outputs, gates, depth and spare contacts\n"
     "  build TABLE [--lamp] [--note TEXT]... [-o FILE]\n"
     "                                  build the netlist; without -o show it as hex: text\n"
@@ -60,19 +62,23 @@ static const char help[] =
     "  dictionary TABLE [-o FILE]      probe every line at both values; write the answers as CSV; unread: nothing reads the line\n"
     "  export TABLE|NETLIST --blif|--verilog|--dot [--lamp] [-o FILE]\n"
     "                                  write the netlist for other tools, line 8 as the net l8\n"
-    "  notes TABLE|NETLIST|DRAWING     show the notes in a file; every other command passes over them\n"
+    "  notes TABLE|NETLIST|DRAWING|RULES\n"
+    "                                  show the notes in a file; every other command passes over them\n"
     "\n"
-    "DRAWING, TABLE, NETLIST and RAILS are files: a path, @PATH, - for standard input, or hex: and digits for the bytes\n"
-    "themselves. What draw and build show is read back: a file or standard input may hold such hex: text, too.\n"
+    "DRAWING, RULES, TABLE, NETLIST and RAILS are files: a path, @PATH, - for standard input, or hex: and digits for the bytes\n"
+    "themselves. What draw, rules and build show is read back: a file or standard input may hold such hex: text, too.\n"
     "DRAWING may also be text: the line contacts N, the line outputs NODE..., then for each node a line NODE CONTACT ZERO ONE: its\n"
     "name, the contact at which it looks, and the nodes to which it leads with that contact open and closed. A name has letters,\n"
     "digits, _, - and .; 0 and 1 are the constants; # starts a comment.\n"
+    "RULES may also be text: for each rule a line CONTACTS : PERMITS, with a sign for each contact, contact 0 first, 1 closed, 0 open,\n"
+    "- either; and one for each permit, output 0 first, 1 yes, 0 no. Blanks may stand anywhere; # starts a comment. Every input must\n"
+    "fit just one rule.\n"
     "INPUT is a decimal number in which contact i has the weight 2^i, or contacts: and a sign for each contact, contact 0 first,\n"
     "1 closed and 0 open: contacts:110 is 3. RAILS has a byte 0 or 1 for each rail in line order; a path that reads like an input\n"
     "is written @PATH there. HOLD is LINE=VALUE, as in 10=0; several stand in rising order of lines.\n"
     "\n"
-    "  -o, --output FILE   write the answer to FILE, whole or not at all; draw and build then write the file's bytes. - is\n"
-    "                      standard output. FILE must not be one of the files read.\n"
+    "  -o, --output FILE   write the answer to FILE, whole or not at all; draw, rules and build then write the file's bytes.\n"
+    "                      - is standard output. FILE must not be one of the files read.\n"
     "      --lines         also show the value of every line\n"
     "      --all           show every gate that differs\n"
     "      --lamp          build tables with the lamp, one pair for all outputs; a netlist has its own or none and stays as it is\n"
