@@ -194,6 +194,87 @@ void use_wide_drawing(unsigned level)
     use_drawing(&d);
 }
 
+/* ---- Rule sheets. ---- */
+
+enum { EITHER = 2 };
+
+static void start_rules(unsigned contacts, unsigned outputs)
+{
+    job.contacts = contacts;
+    memcpy(job.rules, (uint8_t[]){1, 0, 1, (uint8_t)contacts, 8, 0, 1, (uint8_t)outputs}, 8);
+    job.rules_length = 8;
+}
+
+static void add_rule(const uint8_t *sign, uint32_t word)
+{
+    uint8_t *at = job.rules + job.rules_length;
+    *at = 9;
+    at = put_two(at + 1, job.contacts + 1);
+    memcpy(at, sign, job.contacts);
+    at[job.contacts] = (uint8_t)word;
+    job.rules_length += 3 + job.contacts + 1;
+}
+
+void use_rules_on_six(unsigned contacts, unsigned first)
+{
+    struct diagram d;
+    uint8_t sign[12];
+    largest_diagram(&dice, 6, &d);
+    start_rules(contacts, 8);
+    memset(sign, EITHER, sizeof sign);
+    for (uint32_t input = 0; input < 64; input++) {
+        for (unsigned i = 0; i < 6; i++)
+            sign[first + i] = input >> i & 1;
+        add_rule(sign, word_at(&d, input));
+    }
+}
+
+/* A rule, split by so many of the last contacts; each part has a word. */
+static void add_parts(uint8_t *sign, unsigned split, const uint8_t *word)
+{
+    for (unsigned part = 0; part < 1u << split; part++) {
+        for (unsigned i = 0; i < split; i++)
+            sign[12 - split + i] = part >> i & 1;
+        add_rule(sign, word[part]);
+    }
+    memset(sign + 12 - split, EITHER, split);
+}
+
+/* One of the first nine contacts is open and those before it are closed, or all nine are closed and each setting of the last three but
+ * one has an output of its own. Of the nine rules the first three are split until there are 64 in all. */
+void use_late_rules(void)
+{
+    static const uint8_t none[32], own[8] = {0x01, 0x02, 0x04, 0x08, 0x10, 0x20, 0x40, 0};
+    static const unsigned splits[9] = {5, 4, 1};
+    uint8_t sign[12];
+    start_rules(12, 8);
+    memset(sign, EITHER, sizeof sign);
+    for (unsigned open = 0; open < 9; open++) {
+        sign[open] = 0;
+        add_parts(sign, splits[open], none);
+        sign[open] = 1;
+    }
+    add_parts(sign, 3, own);
+}
+
+void use_one_rule(void)
+{
+    start_rules(1, 1);
+    add_rule((uint8_t[]){EITHER}, 1);
+}
+
+void share_input(void)
+{
+    job.rules[job.rules_length - 2] = EITHER; /* the last contact */
+}
+
+void leave_inputs(void)
+{
+    job.rules[job.rules_length - 1 - job.contacts] = 1; /* contact 0 */
+}
+
+/* ---- Notes. ---- */
+
 void note_file(const uint8_t *file, size_t length, unsigned notes, unsigned size)
 {
     job.noted_length = (size_t)notes * (3 + size) + length;

@@ -1,4 +1,4 @@
-/* What the benchmark's calls work on: tables, netlists, rails, holds and drawings. */
+/* What the benchmark's calls work on: tables, netlists, rails, holds, drawings and rule sheets. */
 #ifndef JOBS_H
 #define JOBS_H
 
@@ -6,6 +6,7 @@
 #include "../tests/drawings.h"
 
 enum { MOST_GATES = 10560, BUFFER = PILGODUR_SHEET_MAX }; /* of a board without lamp; a sheet is longer than all else that is written */
+enum { RULES_MAX = 4 + 4 + 64 * (3 + 12 + 1) };
 
 struct job {
     uint8_t table[TABLE_MAX];
@@ -21,6 +22,8 @@ struct job {
     uint8_t drawing[DRAWING_MAX];
     size_t drawing_length;
     unsigned nodes;
+    uint8_t rules[RULES_MAX];
+    size_t rules_length;
     uint8_t *noted; /* one of these files with notes */
     size_t noted_length;
 };
@@ -58,6 +61,20 @@ void use_empty_drawing(unsigned contacts, unsigned outputs);
 
 /* A drawing of 12 contacts and 200 nodes that has nine functions in a level. */
 void use_wide_drawing(unsigned level);
+
+/* A rule sheet with a rule for every setting of six contacts from one on, and the words of the largest diagram with six contacts. The
+ * other contacts are spare. */
+void use_rules_on_six(unsigned contacts, unsigned first);
+
+/* A rule sheet of 12 contacts and 64 rules with eight functions in nearly every level, as in the late drawing. */
+void use_late_rules(void);
+
+/* A rule sheet of one contact, one output and one rule. */
+void use_one_rule(void);
+
+/* Makes the last of the rules on six contacts share an input with the one before, and leave half of its inputs out. */
+void share_input(void);
+void leave_inputs(void);
 
 /* Makes `hold` the one that shows latest, and returns the input at which it does. */
 uint32_t hold_latest_line(void);

@@ -746,22 +746,19 @@ static bool put_level(const struct level *level, unsigned size, struct level *ne
     return true;
 }
 
-pilgodur_built plain_from_drawing(const uint8_t *drawing, size_t drawing_len, uint8_t *table, size_t table_len)
+/* Writes the table of the truth tables: question 17, then 9. */
+static pilgodur_built write_table(unsigned contacts, unsigned outputs, uint8_t *table, size_t table_len)
 {
     uint8_t made[PILGODUR_TABLE_MAX], *at = made;
-    struct drawing d;
     struct level levels[13] = {{0}};
-    if (!read_drawing(drawing, drawing_len, &d))
-        return (pilgodur_built){16, 0};
-    put_truths(&d);
     at = put_head(at, 1, 1);
-    *at++ = (uint8_t)d.contacts;
-    at = put_head(at, 2, d.outputs);
-    for (unsigned j = 0; j < d.outputs; j++)
-        *at++ = (uint8_t)mention(&levels[0], 1u << d.contacts, (struct part){truth[j], 0});
-    for (unsigned l = 0; l < d.contacts; l++) {
+    *at++ = (uint8_t)contacts;
+    at = put_head(at, 2, outputs);
+    for (unsigned j = 0; j < outputs; j++)
+        *at++ = (uint8_t)mention(&levels[0], 1u << contacts, (struct part){truth[j], 0});
+    for (unsigned l = 0; l < contacts; l++) {
         at = put_head(at, 3, 2 * levels[l].width);
-        if (!put_level(&levels[l], 1u << (d.contacts - l - 1), &levels[l + 1], at))
+        if (!put_level(&levels[l], 1u << (contacts - l - 1), &levels[l + 1], at))
             return (pilgodur_built){17, 0};
         at += 2 * levels[l].width;
     }
@@ -770,4 +767,101 @@ pilgodur_built plain_from_drawing(const uint8_t *drawing, size_t drawing_len, ui
         return (pilgodur_built){9, 0};
     memcpy(table, made, length);
     return (pilgodur_built){0, (uint32_t)length};
+}
+
+pilgodur_built plain_from_drawing(const uint8_t *drawing, size_t drawing_len, uint8_t *table, size_t table_len)
+{
+    struct drawing d;
+    if (!read_drawing(drawing, drawing_len, &d))
+        return (pilgodur_built){16, 0};
+    put_truths(&d);
+    return write_table(d.contacts, d.outputs, table, table_len);
+}
+
+/* ---- From rules to their table: the same truth tables. ---- */
+
+enum { MOST_RULES = 64 };
+
+/* The inputs that fit a rule: in the words whose numbers have these bits, at these places. */
+struct rule {
+    unsigned mask, bits;
+    uint64_t places;
+    uint8_t word;
+};
+
+struct rules {
+    unsigned contacts, outputs, count;
+    struct rule rule[MOST_RULES];
+};
+
+/* Contacts that are fixed within a word have a bit in its number, contact 0 the one that weighs most. */
+static bool read_rule(const uint8_t *sign, unsigned contacts, struct rule *r)
+{
+    unsigned fixed = contacts <= 6 ? 0 : contacts - 6;
+    *r = (struct rule){0, 0, ~(uint64_t)0, sign[contacts]};
+    for (unsigned i = 0; i < contacts; i++) {
+        if (sign[i] > 2)
+            return false;
+        if (sign[i] == 2)
+            continue;
+        if (i >= fixed) {
+            uint64_t closed = place_bit[contacts - 1 - i];
+            r->places &= sign[i] == 1 ? closed : ~closed;
+        } else {
+            r->mask |= 1u << (fixed - 1 - i);
+            r->bits |= (unsigned)sign[i] << (fixed - 1 - i);
+        }
+    }
+    return true;
+}
+
+/* Question 18. */
+static bool read_rules(const uint8_t *file, size_t length, struct rules *s)
+{
+    struct reader r = {file, file + length};
+    struct field f;
+    if (!take_contacts(&r, &s->contacts) || !take(&r, 8, 1, 1, &f) || f.value[0] < 1 || f.value[0] > 8)
+        return false;
+    s->outputs = f.value[0];
+    s->count = 0;
+    while (next_field(&r, &f)) {
+        if (f.tag != 9 || f.length != s->contacts + 1 || f.value[s->contacts] >> s->outputs != 0 || s->count == MOST_RULES ||
+            !read_rule(f.value, s->contacts, &s->rule[s->count]))
+            return false;
+        s->count++;
+    }
+    return s->count > 0 && r.at == r.end;
+}
+
+/* Questions 19 and 20, while the truth tables are made. */
+static uint32_t put_rules(const struct rules *s)
+{
+    bool shared = false, unruled = false;
+    for (unsigned w = 0; w < (s->contacts <= 6 ? 1 : 1u << (s->contacts - 6)); w++) {
+        uint64_t ruled = 0;
+        for (unsigned j = 0; j < s->outputs; j++)
+            truth[j][w] = 0;
+        for (const struct rule *r = s->rule; r < s->rule + s->count; r++) {
+            if ((w & r->mask) != r->bits)
+                continue;
+            shared |= (ruled & r->places) != 0;
+            ruled |= r->places;
+            for (unsigned j = 0; j < s->outputs; j++)
+                if (r->word >> j & 1)
+                    truth[j][w] |= r->places;
+        }
+        unruled |= ~ruled != 0;
+    }
+    return shared ? 19 : unruled ? 20 : 0;
+}
+
+pilgodur_built plain_from_rules(const uint8_t *rules, size_t rules_len, uint8_t *table, size_t table_len)
+{
+    struct rules s;
+    if (!read_rules(rules, rules_len, &s))
+        return (pilgodur_built){18, 0};
+    uint32_t refusal = put_rules(&s);
+    if (refusal != 0)
+        return (pilgodur_built){refusal, 0};
+    return write_table(s.contacts, s.outputs, table, table_len);
 }

@@ -20,13 +20,14 @@ static const struct {
     pilgodur_probed (*probe)(const uint8_t *, size_t, const uint8_t *, size_t, uint8_t *, size_t);
     pilgodur_built (*sheet)(const uint8_t *, size_t, uint8_t *, size_t);
     pilgodur_built (*from_drawing)(const uint8_t *, size_t, uint8_t *, size_t);
+    pilgodur_built (*from_rules)(const uint8_t *, size_t, uint8_t *, size_t);
 } services[SIDES] = {
     [PLAIN] = {plain_check, plain_build, plain_build_with_lamp, plain_read_off, plain_run, plain_probe, plain_sheet,
-               plain_from_drawing},
+               plain_from_drawing, plain_from_rules},
     [TUNED] = {tuned_check, tuned_build, tuned_build_with_lamp, tuned_read_off, tuned_run, tuned_probe, tuned_sheet,
-               tuned_from_drawing},
+               tuned_from_drawing, tuned_from_rules},
     [LIBRARY] = {pilgodur_check, pilgodur_build, pilgodur_build_with_lamp, pilgodur_read_off, pilgodur_run, pilgodur_probe,
-                 pilgodur_sheet, pilgodur_from_drawing},
+                 pilgodur_sheet, pilgodur_from_drawing, pilgodur_from_rules},
 };
 
 static uint64_t check(enum side side, const uint8_t *table, size_t length)
@@ -131,6 +132,22 @@ static uint64_t do_from_drawing(enum side side, const struct job *j)
 static uint64_t do_from_drawing_noted(enum side side, const struct job *j)
 {
     return from_drawing(side, j->noted, j->noted_length);
+}
+
+static uint64_t from_rules(enum side side, const uint8_t *rules, size_t length)
+{
+    pilgodur_built r = services[side].from_rules(rules, length, written[side], BUFFER);
+    return r.refusal + 100 * (uint64_t)r.length;
+}
+
+static uint64_t do_from_rules(enum side side, const struct job *j)
+{
+    return from_rules(side, j->rules, j->rules_length);
+}
+
+static uint64_t do_from_rules_noted(enum side side, const struct job *j)
+{
+    return from_rules(side, j->noted, j->noted_length);
 }
 
 /* ---- The rows. ---- */
@@ -253,6 +270,26 @@ static void add_drawings(void)
     add_row("from-drawing, 12 contacts, 200 nodes, refused by 17", do_from_drawing, 1);
 }
 
+static void add_rules(void)
+{
+    use_rules_on_six(12, 6);
+    add_row("from-rules, 12 contacts, 64 rules, the last six fixed", do_from_rules, 1);
+    use_rules_on_six(12, 0);
+    add_row("from-rules, 12 contacts, 64 rules, the first six fixed", do_from_rules, 1);
+    use_late_rules();
+    add_row("from-rules, 12 contacts, 64 rules, alike until late", do_from_rules, 1);
+    use_rules_on_six(6, 0);
+    add_row("from-rules, 6 contacts, 64 rules", do_from_rules, 1);
+    use_one_rule();
+    add_row("from-rules, 1 contact, 1 output, 1 rule", do_from_rules, 1);
+    use_rules_on_six(12, 6);
+    share_input();
+    add_row("from-rules, 12 contacts, 64 rules, refused by 19", do_from_rules, 1);
+    use_rules_on_six(12, 6);
+    leave_inputs();
+    add_row("from-rules, 12 contacts, 64 rules, refused by 20", do_from_rules, 1);
+}
+
 /* Small files, so that the notes take nearly all of the time. */
 static void add_notes(void)
 {
@@ -276,6 +313,9 @@ static void add_notes(void)
     use_empty_drawing(1, 1);
     note_file(job.drawing, job.drawing_length, 20000, 0);
     add_row("from-drawing, 1 contact, no nodes, 20,000 empty notes", do_from_drawing_noted, 1);
+    use_one_rule();
+    note_file(job.rules, job.rules_length, 20000, 0);
+    add_row("from-rules, 1 contact, 1 rule, 20,000 empty notes", do_from_rules_noted, 1);
 }
 
 int main(void)
@@ -292,6 +332,7 @@ int main(void)
     add_probes();
     add_sheets();
     add_drawings();
+    add_rules();
     add_notes();
     return measure_rows() == 1 ? 3 : 0;
 }

@@ -872,20 +872,17 @@ static uint8_t *put_level(const struct functions *f, struct mentions *m, unsigne
     return at;
 }
 
-pilgodur_built tuned_from_drawing(const uint8_t *drawing, size_t drawing_len, uint8_t *table, size_t table_len)
+/* Writes the table of outputs that are these functions: question 17, then 9. */
+static pilgodur_built write_table(const struct functions *f, unsigned contacts, const uint8_t *output, unsigned outputs,
+                                  uint8_t *table, size_t table_len)
 {
-    uint8_t made[PILGODUR_TABLE_MAX], function[NUMBERS], *at = made + 7;
-    struct drawing d;
-    struct functions f;
+    uint8_t made[PILGODUR_TABLE_MAX], *at = made + 7;
     struct mentions m = {0};
-    if (!read_drawing(drawing, drawing_len, &d))
-        return (pilgodur_built){16, 0};
-    find_functions(&d, &f, function);
-    memcpy(made, (uint8_t[]){1, 0, 1, (uint8_t)d.contacts, 2, 0, (uint8_t)d.outputs}, 7);
-    for (unsigned j = 0; j < d.outputs; j++)
-        *at++ = place_of(&m, 0, function[d.output[j]]);
-    for (unsigned l = 0; l < d.contacts; l++) {
-        at = put_level(&f, &m, l, d.contacts, at);
+    memcpy(made, (uint8_t[]){1, 0, 1, (uint8_t)contacts, 2, 0, (uint8_t)outputs}, 7);
+    for (unsigned j = 0; j < outputs; j++)
+        *at++ = place_of(&m, 0, output[j]);
+    for (unsigned l = 0; l < contacts; l++) {
+        at = put_level(f, &m, l, contacts, at);
         if (m.width > 8)
             return (pilgodur_built){17, 0};
     }
@@ -894,4 +891,155 @@ pilgodur_built tuned_from_drawing(const uint8_t *drawing, size_t drawing_len, ui
         return (pilgodur_built){9, 0};
     memcpy(table, made, length);
     return (pilgodur_built){0, (uint32_t)length};
+}
+
+pilgodur_built tuned_from_drawing(const uint8_t *drawing, size_t drawing_len, uint8_t *table, size_t table_len)
+{
+    uint8_t function[NUMBERS], output[8];
+    struct drawing d;
+    struct functions f;
+    if (!read_drawing(drawing, drawing_len, &d))
+        return (pilgodur_built){16, 0};
+    find_functions(&d, &f, function);
+    for (unsigned j = 0; j < d.outputs; j++)
+        output[j] = function[d.output[j]];
+    return write_table(&f, d.contacts, output, d.outputs, table, table_len);
+}
+
+/* ---- From rules to their table: a set of rules is a word of 64 bits. Fixing a contact leaves a subset; while it has more than one
+ * rule the outputs' functions are made from those of its two subsets. ---- */
+
+enum { MOST_RULES = 64, EITHER = 2, SETS = 128 };
+
+struct rules {
+    unsigned contacts, outputs, count;
+    const uint8_t *rule[MOST_RULES];
+    uint64_t with[12][4]; /* the rules with each sign at a contact; 3 stands for all that are no sign */
+};
+
+/* Takes one rule; false if it is malformed. */
+static bool take_rule(struct rules *r, const uint8_t *sign)
+{
+    uint64_t bit = 1ull << r->count;
+    bool good = sign[r->contacts] >> r->outputs == 0;
+    for (unsigned i = 0; i < r->contacts; i++) {
+        r->with[i][sign[i] & 3] |= bit;
+        good &= sign[i] <= EITHER;
+    }
+    r->rule[r->count++] = sign;
+    return good;
+}
+
+/* Question 18. */
+static bool read_rules(const uint8_t *file, size_t length, struct rules *r)
+{
+    size_t at = pass_contacts(file, length, &r->contacts);
+    if (at == 0 || at + 4 > length || file[at] != 8 || file[at + 1] != 0 || file[at + 2] != 1 || file[at + 3] - 1u > 7)
+        return false;
+    r->outputs = file[at + 3];
+    r->count = 0;
+    memset(r->with, 0, sizeof r->with);
+    for (at = pass_notes(file, length, at + 4); at < length; at = pass_notes(file, length, at + 4 + r->contacts))
+        if (r->count == MOST_RULES || at + 4 + r->contacts > length || file[at] != 9 || file[at + 1] != 0 ||
+            file[at + 2] != r->contacts + 1 || !take_rule(r, file + at + 3))
+            return false;
+    return at == length && r->count > 0;
+}
+
+/* Questions 19 and 20. A rule shares an input with each one that differs from it at no contact that both fix. If no two do, every
+ * input fits one exactly if as many inputs fit rules as there are. */
+static uint32_t ask_inputs(const struct rules *r)
+{
+    static const uint8_t opposite[] = {1, 0, [EITHER] = 3};
+    uint64_t all = ~0ull >> (64 - r->count);
+    uint32_t fitting = 0;
+    for (unsigned k = 0; k < r->count; k++) {
+        uint64_t differing = 1ull << k;
+        unsigned either = 0;
+        for (unsigned i = 0; i < r->contacts; i++) {
+            unsigned sign = r->rule[k][i];
+            differing |= r->with[i][opposite[sign]];
+            either += sign == EITHER;
+        }
+        if (differing != all)
+            return 19;
+        fitting += 1u << either;
+    }
+    return fitting == 1u << r->contacts ? 0 : 20;
+}
+
+/* The functions that are made, at most eight that look at one contact first: function 2 + 8l + k is number k of those that look at
+ * contact l. And sets of rules with the functions that they lead to, a byte for each output; these hang on the set alone. */
+struct sets {
+    const struct rules *rules;
+    struct functions *functions;
+    unsigned width[12];
+    bool wide; /* there is a ninth function */
+    uint64_t set[SETS], outputs[SETS];
+};
+
+static uint64_t function_at(struct sets *s, unsigned level, unsigned zero, unsigned one)
+{
+    uint32_t key = level << 16 | zero << 8 | one, *keys = s->functions->key + 2 + 8 * level;
+    unsigned k = 0;
+    if (zero == one)
+        return zero;
+    while (k < s->width[level] && keys[k] != key)
+        k++;
+    s->wide |= k == 8;
+    if (k == s->width[level] && k < 8)
+        keys[s->width[level]++] = key;
+    return 2 + 8 * level + k % 8;
+}
+
+/* A byte 0 or 1 for each bit of a permit word. */
+static uint64_t constants_of(unsigned word)
+{
+    uint64_t bits = (uint64_t)word * 0x0101010101010101 & 0x8040201008040201;
+    return (bits + 0x7f7f7f7f7f7f7f7f) >> 7 & 0x0101010101010101;
+}
+
+/* Two rules differ at some contact, so there is one that is fixed by some rule of the set. */
+static uint64_t functions_of(struct sets *s, unsigned level, uint64_t set)
+{
+    const struct rules *r = s->rules;
+    unsigned slot = set * 0x9e3779b97f4a7c15 >> 57;
+    uint64_t made = 0;
+    if ((set & (set - 1)) == 0)
+        return constants_of(r->rule[__builtin_ctzll(set)][r->contacts]);
+    if (s->set[slot] == set || s->wide)
+        return s->outputs[slot];
+    while ((set & ~r->with[level][EITHER]) == 0)
+        level++;
+    uint64_t zero = functions_of(s, level + 1, set & ~r->with[level][1]);
+    uint64_t one = functions_of(s, level + 1, set & ~r->with[level][0]);
+    for (unsigned j = 0; j < 8 * r->outputs; j += 8)
+        made |= function_at(s, level, zero >> j & 255, one >> j & 255) << j;
+    s->set[slot] = set;
+    s->outputs[slot] = made;
+    return made;
+}
+
+pilgodur_built tuned_from_rules(const uint8_t *rules, size_t rules_len, uint8_t *table, size_t table_len)
+{
+    struct rules r;
+    struct functions f;
+    struct sets s;
+    uint8_t output[8];
+    if (!read_rules(rules, rules_len, &r))
+        return (pilgodur_built){18, 0};
+    uint32_t refusal = ask_inputs(&r);
+    if (refusal != 0)
+        return (pilgodur_built){refusal, 0};
+    s.rules = &r;
+    s.functions = &f;
+    s.wide = false;
+    memset(s.width, 0, sizeof s.width);
+    memset(s.set, 0, sizeof s.set);
+    f.key[0] = f.key[1] = r.contacts << 16;
+    uint64_t outputs = functions_of(&s, 0, ~0ull >> (64 - r.count));
+    memcpy(output, &outputs, 8);
+    if (s.wide)
+        return (pilgodur_built){17, 0};
+    return write_table(&f, r.contacts, output, r.outputs, table, table_len);
 }

@@ -1,4 +1,4 @@
-/* The same eight services in C written for speed, for the benchmark to measure against. For little-endian machines. */
+/* The same nine services in C written for speed, for the benchmark to measure against. For little-endian machines. */
 #ifndef TUNED_H
 #define TUNED_H
 
@@ -15,5 +15,6 @@ pilgodur_probed tuned_probe(const uint8_t *table, size_t table_len, const uint8_
                             uint8_t *buffer, size_t buffer_len);
 pilgodur_built tuned_sheet(const uint8_t *netlist, size_t netlist_len, uint8_t *text, size_t text_len);
 pilgodur_built tuned_from_drawing(const uint8_t *drawing, size_t drawing_len, uint8_t *table, size_t table_len);
+pilgodur_built tuned_from_rules(const uint8_t *rules, size_t rules_len, uint8_t *table, size_t table_len);
 
 #endif
