@@ -337,6 +337,163 @@ try draw gallery.drawing --lines
 try draw gallery.drawing -o gallery.drawing
 judge
 
+# A rule sheet of the selector's functions.
+selector_rules=hex:010001030800010109000402000000090004020001010900040001020009000401010201
+# split CONTACTS COUNT PERMITS: text with so many rules: contact 0 is open, or it is closed and contact 1 is open, and so on; then the rest.
+split() {
+    awk -v contacts="$1" -v count="$2" -v permits="$3" 'BEGIN {
+        for (k = 0; k < count; k++) {
+            for (i = 0; i < contacts; i++)
+                printf "%s", (i > k || (i == k && k == count - 1) ? "-" : i == k ? 0 : 1)
+            print " : " permits
+        }
+    }'
+}
+# full CONTACTS FROM FIXED: text with a rule for each setting of so many contacts from one on; the permit is their count, odd or not.
+full() {
+    awk -v contacts="$1" -v from="$2" -v fixed="$3" 'BEGIN {
+        for (a = 0; a < 2 ^ fixed; a++) {
+            odd = 0
+            for (i = 0; i < contacts; i++) {
+                bit = int(a / 2 ^ (i - from)) % 2
+                sign = i < from || i >= from + fixed ? "-" : bit
+                odd = sign == "-" ? odd : (odd + bit) % 2
+                printf "%s", sign
+            }
+            print ":" odd
+        }
+    }'
+}
+# wide OUTPUTS: text with twice as many functions of contacts 1 and 2 as there are outputs.
+wide() {
+    awk -v outputs="$1" 'BEGIN {
+        for (a = 0; a < 8; a++) {
+            printf "%d%d%d : ", a % 2, a / 2 % 2, a / 4
+            for (j = 0; j < outputs; j++)
+                printf "%d", (2 * j + a % 2 + 1) / 2 ^ int(a / 2) % 2
+            print ""
+        }
+    }'
+}
+# rules LINE...: makes the table of these lines.
+rules() {
+    printf '%s\n' "$@" | pilgodur rules -
+}
+
+transcript rules
+try rules gallery.rules
+try rules gallery.rules -o ruled.table
+pipe 'cmp ruled.table gallery.table'
+pipe 'pilgodur rules @gallery.rules | pilgodur check -'
+pipe 'pilgodur rules - <gallery.rules -o - | cmp - gallery.table'
+pipe 'pilgodur rules gallery.rules | pilgodur compare - gallery.table'
+try rules $selector_rules
+pipe 'pilgodur rules $selector_rules -o - | cmp - selector.table'
+pipe 'echo "$selector_rules" >selector.hex; pilgodur rules selector.hex -o - | cmp - selector.table'
+pipe 'rules "-00:0" "-01:1" "01-:0" "11-:1" | pilgodur compare - selector.table'
+# The same rules with other line ends, blanks and comments, and in another sequence.
+pipe 'sed "s/\$/\r/" gallery.rules | pilgodur rules -o - - | cmp - gallery.table'
+pipe 'tr " " "\t" <gallery.rules | pilgodur rules -o - - | cmp - gallery.table'
+pipe 'sed "s/#.*//; s/ //g; /^\$/d" gallery.rules >close.rules; cat close.rules; pilgodur rules close.rules -o - | cmp - gallery.table'
+pipe 'sort close.rules | pilgodur rules -o - - | cmp - gallery.table'
+pipe 'sort -r close.rules | pilgodur rules -o - - | cmp - gallery.table'
+pipe 'printf "\n\r\n # \n\t- :\t1 # one: 1\n\n#1:1" | pilgodur rules -'
+pipe 'printf "0:1\n1:0" | pilgodur rules -'
+pipe 'printf "\r\n0:1\n1:0#" | pilgodur rules -'
+# One rule, the most rules, contacts and outputs, rules that fix the first contacts, the last, or one contact.
+pipe 'rules "------------:10101010"'
+pipe 'split 12 12 01 | pilgodur rules -'
+for fixed in 'full 12 0 6' 'full 12 6 6' 'full 12 3 6' 'full 6 0 6' 'full 12 11 1'; do
+    pipe "$fixed | pilgodur rules -"
+done
+pipe 'rules "0 : 11111111" "1 : 01111110"'
+# Question 19: neighbours, the same rule twice with the same permits, the first two of three, the smallest input of several; also if an
+# input fits no rule.
+pipe 'rules "01-:1" "0--:1" "1--:0"'
+pipe 'rules "0-:0" "1-:1" "" "1-:1"'
+pipe 'rules "---:0" "# either" "-1-:1" "111:0"'
+pipe 'rules "1--:1" "-1-:1" "--1:1"'
+pipe 'rules "11------ ----:0" "-----------0:1"'
+try rules 'hex:01000102 08000101 090003010200 090003000200 090003010101 090003020001'
+try rules 'hex:800000 01000101 8000013a 08000101 0900020100 ff0000 0900020201 0900020200 ff000102'
+pipe 'full 12 6 6 | sed "\$s/1:0/-:0/" | pilgodur rules -'
+# Question 20.
+pipe 'rules "1:1"'
+pipe 'rules "0--:0" "10-:1" "111:1"'
+pipe 'split 12 12 1 | sed "\$d" | pilgodur rules -'
+pipe 'full 12 0 6 | sed "3d; 40d" | pilgodur rules -'
+try rules 'hex:01000103 08000102 09000402020103'
+try rules 'hex:01000103 08000102 0900040202000381000009000401010102' -o ruled.table
+pipe 'cmp ruled.table gallery.table'
+# Question 17: ten functions of two contacts, and eight; with contacts before them, or behind.
+pipe 'wide 5 >wide.rules; pilgodur rules wide.rules'
+pipe 'wide 4 | pilgodur rules -'
+pipe 'sed "s/^/-/" wide.rules | pilgodur rules -'
+pipe 'sed "s/^/------/" wide.rules | pilgodur rules -'
+pipe 'sed "s/:/---:/" wide.rules | pilgodur rules -'
+# Question 18: fields.
+for sheet in '' 01 0100 010001 01000101 0100010108 01000101080001 0100010108000101 010001010800010109 01000101080001010900 \
+    010001010800010109000202 08000101 01000001 0100020101 01000100 0100010d 010001ff 0100010102000100 01000101080000 \
+    0100010108000201020900020200 0100010108000100 0100010108000109 01000101080001ff 01000101080001010700020200 \
+    010001010800010109000100 01000101080001010900030202 0100010108000101090003020200 01000101080001010900020300 \
+    0100010108000101090002ff00 01000101080001010900020202 01000101080001070900020280 0100010208000101090003020300; do
+    try rules "hex:$sheet"
+done
+for behind in 09 070000 0900020100 090000 08000101 0900030202; do
+    try rules "hex:0100010208000101090003000200$behind"
+done
+try rules hex:01000101090002020008000101
+try rules selector.table
+try rules selector.netlist
+try rules hex:efbbbf303a30
+pipe 'printf "\357\273\277-:1\n" | pilgodur rules -'
+# Question 18: counts.
+pipe 'full 6 0 6 >64.rules; pilgodur rules 64.rules | cksum'
+pipe '{ echo; echo "# a sheet"; cat 64.rules; echo "# 65"; echo "------:0"; } | pilgodur rules -'
+pipe '{ cat 64.rules; yes -- "------:0" | head -n 70000; } | pilgodur rules -'
+pipe '{ echo hex:01000101 08000101; yes 0900020200 | head -n 65; } | pilgodur rules -'
+pipe '{ echo hex:01000101 08000101; yes 0900020200 | head -n 70; } | pilgodur rules -'
+pipe '{ echo hex:01000101 08000101; yes 0900020200 | head -n 64; echo 0900020300; } | pilgodur rules -'
+pipe 'rules "-------------:1"'
+pipe 'rules "" "$(printf "%0300d" 0):1" "$(printf "%0300d" 0):1"'
+pipe 'rules "" "" ":1" ":0"'
+pipe 'rules "-:"'
+pipe 'rules "# none" " : "'
+pipe 'rules "0:011111111" "1:100000000"'
+pipe 'rules "0:$(printf "%070000d" 0)" "1:$(printf "%070000d" 1)"'
+pipe 'rules "-------------:000000000"'
+# Text that is of no form.
+pipe 'printf "# nothing\n\n" | pilgodur rules -'
+pipe 'printf " " | pilgodur rules -'
+pipe 'rules "-1 1"'
+pipe 'rules "0:1" "1 # : 0"'
+pipe 'rules "0:1" "2:0"'
+pipe 'rules "0:1" "" "1:-"'
+pipe 'rules "0:1" "1:2"'
+pipe 'rules "0:1:1" "1:0"'
+pipe 'rules "x:1"'
+pipe 'rules "0|1"'
+pipe 'rules "00:1" "01:1" "1:1"'
+pipe 'rules "# counts" "0:1" "" "10:1"'
+pipe 'rules "00:1" "01:11" "1-:1"'
+pipe 'rules "0:11" "1:1"'
+pipe 'rules "0:1" "11:11"'
+pipe '{ cat 64.rules; yes -- "------:0" | head -n 70; echo "------:2"; } | pilgodur rules -'
+pipe 'printf "0:1\n1:0\0\n" | pilgodur rules -'
+pipe 'printf "0:1\n1:0\v\n" | pilgodur rules -'
+pipe 'pilgodur draw gallery.rules'
+pipe 'pilgodur rules gallery.drawing'
+pipe 'printf "0" >bad.rules; pilgodur rules bad.rules -o ruled.table; cmp ruled.table gallery.table'
+try rules hex:303a310a313a30
+try rules hex:010
+try rules no-such.rules
+try rules
+try rules gallery.rules gallery.rules
+try rules gallery.rules --lines
+try rules gallery.rules --note x
+try rules gallery.rules -o gallery.rules
+judge
+
 transcript hex
 pipe 'pilgodur build selector.table | pilgodur list -'
 pipe 'pilgodur build selector.table >selector.hex; pilgodur compare selector.hex selector.table'
@@ -600,7 +757,9 @@ done
 try notes $q1
 try notes hex:800001610100
 pipe '{ cat selector.netlist; printf "\200\000\003ab"; } >cut.netlist; pilgodur notes cut.netlist'
+try notes "$selector_rules"
 try notes gallery.drawing
+try notes gallery.rules
 pipe 'echo contacts | pilgodur notes -'
 try notes no-such.table
 try notes
@@ -641,6 +800,9 @@ done
 pipe 'raw "$selector_drawing" >selector.bytes; noted selector.bytes $note >noted.drawing; pilgodur notes noted.drawing'
 pipe 'pilgodur draw noted.drawing -o - | cmp - selector.table'
 pipe '{ printf "\377\000\001a"; cat selector.bytes; } | pilgodur draw -o - - | cmp - selector.table'
+pipe 'raw "$selector_rules" >selector.bytes; noted selector.bytes $note >noted.rules; pilgodur notes noted.rules | wc -l'
+pipe 'pilgodur rules noted.rules -o - | cmp - selector.table'
+pipe '{ printf "\377\000\001a"; cat selector.bytes; } | pilgodur rules -o - - | cmp - selector.table'
 # Text has no notes: within it the second line looks like the value of one.
 pipe 'printf "#\000\001 \200\000\ncontacts 1\noutputs a\na 0 0 1\n" | pilgodur draw -'
 # Rails are no file with notes.
@@ -651,6 +813,8 @@ for cut in 80 80ffff 8000040102; do
     try list "hex:800000010001018100000400000500040002000380000161$cut"
     try run "hex:80000001000101040000050004000200038000$cut" 0
     try draw "hex:010001010200010080000007000080000161$cut"
+    try rules "hex:0100010108000101800000090002020180000161$cut"
+    try rules "hex:0100010108000101$cut"
 done
 try list hex:800010010001010400000500040002000380
 try draw hex:800010010001010200010007000080

@@ -1,6 +1,6 @@
 #!/bin/sh
 # The header, the program, README and docs/RULES.md say the same: the questions behind the refusals, the version, the examples, the
-# commands, the worked boards and the worked drawing.
+# commands, the worked boards, the worked drawing and the worked rule sheet.
 #
 #     tests/docs_test.sh BENCH QUESTIONS [RESULTS]
 #
@@ -46,6 +46,9 @@ printf 'contacts 3\noutputs %s\n' "$(seq -s ' ' 20 24)" >wide.drawing
 printf '%s\n' '20 0 10 11' '21 0 12 13' '22 0 14 15' '23 0 16 17' '24 0 18 0' '10 1 2 0' '11 1 2 1' '12 1 0 2' '13 1 1 2' \
     '14 1 3 0' '15 1 3 1' '16 1 0 3' '17 1 1 3' '18 1 2 3' '2 2 0 1' '3 2 1 0' >>wide.drawing
 refused draw wide.drawing
+refused rules hex:
+refused rules hex:010001010800010109000202000900020201
+refused rules hex:01000101080001010900020100
 sed '/^| 9 /d' header >asked # the program lends buffers that are long enough
 same "the program's questions are the header's" asked program
 
@@ -86,11 +89,17 @@ sed -n '/^    \$ pilgodur draw both.drawing/,/^$/p' "$root/README.md" | sed '1d;
 "$bench" draw both.drawing >said
 same "README's example of draw" said drawn
 
+sed -n '/^    \$ cat both.rules/,/^    \$ pilgodur rules/p' "$root/README.md" | sed '1d; $d; s/^    //' >both.rules
+sed -n '/^    \$ pilgodur rules both.rules/,/^$/p' "$root/README.md" | sed '1d; $d; s/^    //' >ruled
+"$bench" rules both.rules >said
+same "README's example of rules" said ruled
+same "README's examples of draw and rules have one table" drawn ruled
+
 "$bench" --help | sed -n 's/^  \([a-z][a-z-]*\) .*/\1/p' >commands
 while read -r command; do
     grep -q "^| \`$command " "$root/README.md" || complain "README has no row for $command"
 done <commands
-[ "$(wc -l <commands)" -ge 11 ] || failures=$((failures + 1))
+[ "$(wc -l <commands)" -ge 12 ] || failures=$((failures + 1))
 
 # The worked boards of docs/RULES.md. A table stands in the first block of a section, with words behind its bytes.
 section() {
@@ -177,6 +186,26 @@ done
 "$bench" draw text | "$bench" check - | sed -n 's/^gates \(.*\)/\1/p; s/^depth \(.*\)/\1/p' | xargs printf 'Its netlist has %s gates and depth %s.\n' >said
 section 'A drawing' | grep '^Its netlist' >page
 same "the netlist of the drawing in docs/RULES.md" said page
+
+# The worked rule sheet: its text is that of examples/, its text and its bytes have the drawing's table, and three edits of it are refused as
+# the page says.
+section 'A rule sheet' | sed -n '/Their text, /,/^Their bytes/p' | sed '1,2d; $d' | sed '$d; s/^    //' >text
+same "the rule sheet in docs/RULES.md is examples/gallery.rules" "$root/examples/gallery.rules" text
+section 'A rule sheet' | sed '1,/^Their bytes/d' | bytes >sheet
+[ "$(wc -c <sheet)" -eq 142 ] || complain "the rule sheet in docs/RULES.md has another count of bytes"
+section 'A drawing' | sed '1,/The table, /d' | bytes | sed 's/^/hex:/; s/$/\n/' >page
+for given in text "hex:$(cat sheet)"; do
+    "$bench" rules "$given" >said
+    same "the table of the rule sheet in docs/RULES.md" said page
+done
+section 'A rule sheet' | sed '1,/^The rules fit/d' | tr '\n' ' ' | grep -o 'refused with [0-9]*\|input [0-9]*' | grep -o '[0-9]*' >page
+: >said
+for edit in '$d' 's/0    1    0    -/0    1    -    -/' 's/0    0    -    -/0    -    -    -/'; do
+    sed "$edit" text >edited
+    "$bench" rules edited 2>&1 | sed -n 's/.*: input \([0-9]*\), .*number \([0-9]*\): .*/\2\n\1/p' >>said
+done
+same "what docs/RULES.md says of other rules" said page
+[ "$(wc -l <page)" -eq 6 ] || complain "docs/RULES.md says something else of other rules"
 
 echo "docs: $failures differences"
 [ "$failures" -eq 0 ]

@@ -41,6 +41,7 @@ tested() {
     limited tests/bench_test.sh "$1" "$folder/bench_test" &&
         limited tests/save_test.sh "$1" "$2" "$folder/save_test" &&
         limited tests/draw_test.sh "$1" build/sketches "$folder/draw_test" &&
+        limited tests/rules_test.sh "$1" build/rulings "$folder/rules_test" &&
         limited tests/terminal_test.sh build/terminal "$1" &&
         limited tests/docs_test.sh "$1" build/questions "$folder/docs_test" &&
         limited tests/exports_test.sh "$1" build/readback build/netlists "$folder/exports"
@@ -212,10 +213,10 @@ wrong draw "draw without -o writes bytes" 's/request->output == NULL/false/'
 wrong draw "room for a table is too short" 's/table\[PILGODUR_TABLE_MAX\]/table[60]/'
 wrong draw "the fault is left out" 's/made.refusal == PILGODUR_REFUSAL_DRAWING/false/'
 wrong draw "the width is left out" 's/made.refusal == PILGODUR_REFUSAL_FUNCTIONS/false/'
-wrong draw "one contact fewer is fixed" 's/contacts 0 to %u leaves more than eight functions", fixed - 1/contacts 0 to %u leaves more than eight functions", fixed - 2/'
-wrong draw "two contacts are fixed at least" 's/unsigned fixed = 1;/unsigned fixed = 2;/'
-wrong draw "eight functions are too many" 's/if (k == 8)/if (k == 7)/'
-wrong draw "functions are compared in half" 's/way \* size, size) != 0)/way * size, size \/ 2) != 0)/'
+wrong width "one contact fewer is fixed" 's/contacts 0 to %u leaves more than eight functions", fixed - 1/contacts 0 to %u leaves more than eight functions", fixed - 2/'
+wrong width "two contacts are fixed at least" 's/unsigned fixed = 1;/unsigned fixed = 2;/'
+wrong width "eight functions are too many" 's/if (k == 8)/if (k == 7)/'
+wrong width "functions are compared in half" 's/way \* size, size) != 0)/way * size, size \/ 2) != 0)/'
 wrong draw "text is handed over as it is" 's/pilgodur_from_drawing(drawing.bytes, drawing.length/pilgodur_from_drawing(request->file[0].at, request->file[0].length/'
 wrong draw "a refused drawing is an answer" 's/if (made.refusal != 0)/if (false)/'
 wrong draw "nodes are named by their place" 's/if (d->is_text)/if (false)/'
@@ -230,22 +231,22 @@ wrong draw "bytes after the last field are no fault" 's/return at < length \&\&/
 wrong draw "a cut field is none" 's/if (at == length)/if (at == length || !field_at(bytes, length, at, \&field))/'
 wrong draw "a note between the fields is one of them" 's/^        at = past_notes(bytes, length, at);//'
 wrong draw "a note behind the fields is some bytes" 's/^    at = past_notes(bytes, length, at);//'
-wrong draw "a cut note is a field" 's/if (drawing->bytes\[at\] < PILGODUR_NOTE_TAG)/if (true)/'
-wrong draw "a cut field is a note" 's/if (drawing->bytes\[at\] < PILGODUR_NOTE_TAG)/if (false)/'
+wrong fault "a cut note is a field" 's/if (bytes\[at\] < PILGODUR_NOTE_TAG)/if (true)/'
+wrong fault "a cut field is a note" 's/if (bytes\[at\] < PILGODUR_NOTE_TAG)/if (false)/'
 wrong draw "a cut note at the end is some bytes" 's/if (at < length && bytes\[at\] >= PILGODUR_NOTE_TAG)/if (false)/'
-wrong draw "a byte order mark is not named" 's/marked ? .*)/"")/'
-wrong draw "every cut note is a byte order mark" 's/bool marked = .*/bool marked = true;/'
-wrong draw "a byte order mark may stand anywhere" 's/marked = at == 0 && drawing->length >= size && memcmp(drawing->bytes,/marked = drawing->length >= at + size \&\& memcmp(drawing->bytes + at,/'
-wrong drawing "text is taken for bytes" "s/(' ' <= first && first < PILGODUR_NOTE_TAG) || //"
-wrong drawing "text that begins with an empty line is taken for bytes" 's/ || memchr(".t.r.n", first, 3) != NULL//'
-wrong drawing "bytes are taken for text" 's/    return (. . <= first.*/    return file->length > 0;/'
-wrong drawing "bytes that begin with a note are taken for text" 's/ && first < PILGODUR_NOTE_TAG//'
-wrong drawing "no bytes are text" "s/file->at\[0\] : 0/file->at[0] : 9/"
-wrong drawing "comments are words" "s/memchr(text->at, '#', /memchr(text->at, 1, /"
-wrong drawing "a tab is no blank" "s/ || c == '.t'//"
-wrong drawing "CRLF is no line end" "s/ || c == '.r'//"
-wrong drawing "lines are counted from 0" 's/{.file = file->name}/{.file = file->name, .number = -1u}/'
-wrong drawing "a last line without a line feed is lost" 's/while (text->at < text->end) {/while (text->at < text->end \&\& memchr(text->at, 10, (size_t)(text->end - text->at))) {/'
+wrong fault "a byte order mark is not named" 's/marked ? .*)/"")/'
+wrong fault "every cut note is a byte order mark" 's/bool marked = .*/bool marked = true;/'
+wrong fault "a byte order mark may stand anywhere" 's/marked = at == 0 && length >= size && memcmp(bytes,/marked = length >= at + size \&\& memcmp(bytes + at,/'
+wrong text "text is taken for bytes" "s/(' ' <= first && first < PILGODUR_NOTE_TAG) || //"
+wrong text "text that begins with an empty line is taken for bytes" 's/ || memchr(".t.r.n", first, 3) != NULL//'
+wrong text "bytes are taken for text" 's/    return (. . <= first.*/    return file->length > 0;/'
+wrong text "bytes that begin with a note are taken for text" 's/ && first < PILGODUR_NOTE_TAG//'
+wrong text "no bytes are text" "s/file->at\[0\] : 0/file->at[0] : 9/"
+wrong text "comments are words" "s/memchr(text->at, '#', /memchr(text->at, 1, /"
+wrong text "a tab is no blank" "s/ || c == '.t'//"
+wrong text "CRLF is no line end" "s/ || c == '.r'//"
+wrong text "lines are counted from 0" 's/{.file = file->name}/{.file = file->name, .number = -1u}/'
+wrong text "a last line without a line feed is lost" 's/while (text->at < text->end) {/while (text->at < text->end \&\& memchr(text->at, 10, (size_t)(text->end - text->at))) {/'
 wrong drawing "any sign may be in a word" 's/if (!is_of_a_word(\*line->at))/if (false)/'
 wrong drawing "no dot in a name" "s/ || c == '.';/;/"
 wrong drawing "numbers wrap" 's/if (number > UINT8_MAX)/if (false)/'
@@ -268,7 +269,78 @@ wrong drawing "node 201 is left out" 's/smaller(drawing->nodes, DRAWING_NODES + 
 wrong drawing "nodes past 201 are written" 's/if (i < count)/if (true)/'
 wrong drawing "nodes past the first 64 overwrite others" 's/room == 0 ? FIRST_ROOM : 2 \* room/FIRST_ROOM + 0 * room/'
 wrong drawing "a missing output is on the line before" 's/^    read_nodes(&text, drawing);/    outputs.number--;\n&/'
-wrong drawing "a text of another form is a refusal" 's/fail(FAILED, "%s: line %u: %s"/fail(SAID_NO, "%s: line %u: %s"/'
+wrong text "a text of another form is a refusal" 's/fail(FAILED, "%s: line %u: %s"/fail(SAID_NO, "%s: line %u: %s"/'
+wrong fault "a first field of two bytes is no fault" 's/if (field->length != 1)/if (false)/'
+wrong fault "thirteen contacts are no fault" 's/ || field->value\[0\] > 12)/)/'
+wrong fault "no contacts are no fault" 's/field->value\[0\] < 1 || //'
+wrong rule_sheet "the last contact first" 's/rule->sign\[rule->contacts\] =/rule->sign[rule->contacts % 2 == 0 ? rule->contacts + 1 : rule->contacts - 1] =/'
+wrong rule_sheet "the last output first" "s/((\*at == '1') << rule->permits)/((*at == '1') << (7 - rule->permits))/"
+wrong rule_sheet "- is open" "s/\*at == '-' ? 2 :/*at == '-' ? 0 :/"
+wrong rule_sheet "open and closed are exchanged" "s/? 2 : \*at == '1';/? 2 : *at == '0';/"
+wrong rule_sheet "yes and no are exchanged" "s/((\*at == '1') << rule->permits)/((*at == '0') << rule->permits)/"
+wrong rule_sheet "any sign may stand before the colon" "s/if (\*at != '0' && \*at != '1' && \*at != '-')/if (false)/"
+wrong rule_sheet "any sign may stand behind the colon" "s/if (\*at != '0' && \*at != '1')/if (false)/"
+wrong rule_sheet "2 stands for either, too" "s/ && \*at != '-')/ \&\& *at != '-' \&\& *at != '2')/"
+wrong rule_sheet "no blanks before the colon" '/^static void read_contacts/,/^}/s/if (is_blank(\*at))/if (false)/'
+wrong rule_sheet "no blanks behind the colon" '/^static void read_permits/,/^}/s/if (is_blank(\*at))/if (false)/'
+wrong rule_sheet "without a colon there are no permits" 's/if (colon == NULL)/if (colon == NULL)\n        colon = line->end;\n    if (false)/'
+wrong rule_sheet "other counts of contacts are no fault" 's/if (rule->contacts != sheet->contacts)/if (false)/'
+wrong rule_sheet "other counts of permits are no fault" 's/if (rule->permits != sheet->outputs)/if (false)/'
+wrong rule_sheet "fewer permits are no fault" 's/if (rule->permits != sheet->outputs)/if (rule->permits > sheet->outputs)/'
+wrong rule_sheet "the counts are those of the line before" 's/if (sheet->rules == 0) {/if (true) {/'
+wrong rule_sheet "the line of another rule is named" 's/rule->contacts, sheet->line\[0\]/rule->contacts, sheet->line[1]/'
+wrong rule_sheet "the thirteenth contact is left out" 's/RULES_CONTACTS + 1)/RULES_CONTACTS)/'
+wrong rule_sheet "the ninth permit is left out" 's/RULES_OUTPUTS + 1)/RULES_OUTPUTS)/'
+wrong rule_sheet "rule 65 is left out" 's/if (sheet->rules <= RULES_MOST)/if (sheet->rules < RULES_MOST)/'
+wrong rule_sheet "rules past 65 are written" 's/if (sheet->rules <= RULES_MOST)/if (true)/'
+wrong rule_sheet "contacts past the thirteenth are written" 's/if (rule->contacts <= RULES_CONTACTS)/if (true)/'
+wrong rule_sheet "a rule keeps the word of the one before" 's/\*rule = (struct rule){0};/rule->contacts = rule->permits = 0;/'
+wrong rule_sheet "text without a rule is a rule sheet" 's/if (sheet->rules == 0)$/if (false)/'
+wrong rule_sheet "a rule is on the line after" 's/= text.line.number;/= text.line.number + 1;/'
+wrong rule_sheet "the outputs have tag 2" 's/put_byte_field(put, 8,/put_byte_field(put, 2,/'
+wrong rules "rules with -o writes text" 's/request->output == NULL/true/'
+wrong rules "rules without -o writes bytes" 's/request->output == NULL/false/'
+wrong rules "room for a table is too short" 's/table\[PILGODUR_TABLE_MAX\]/table[60]/'
+wrong rules "text is handed over as it is" 's/pilgodur_from_rules(sheet.bytes, sheet.length/pilgodur_from_rules(request->file[0].at, request->file[0].length/'
+wrong rules "a refused rule sheet is an answer" 's/if (made.refusal != 0)/if (false)/'
+wrong rules "nothing is said of a fault" 's/^        find_fault(&sheet, made.refusal, &fault);//'
+wrong rules "of a text nothing more is said" 's/(sheet->is_text && text_fault(sheet, fault)) || //'
+wrong rules "the line of the last rule that may be is named" 's/sheet->line\[RULES_MOST\], RULES_MOST/sheet->line[RULES_MOST - 1], RULES_MOST/'
+wrong rules "the count of contacts is that of the bytes" 's/sheet->line\[0\], sheet->contacts, RULES_CONTACTS/sheet->line[0], (size_t)sheet->bytes[3], RULES_CONTACTS/'
+wrong rules "the count of outputs is that of the bytes" 's/sheet->line\[0\], sheet->outputs, RULES_OUTPUTS/sheet->line[0], (size_t)sheet->bytes[7], RULES_OUTPUTS/'
+wrong rules "a second field of two bytes is no fault" 's/if (field->length != 1)/if (false)/'
+wrong rules "nine outputs are no fault" 's/ || field->value\[0\] > RULES_OUTPUTS)/)/'
+wrong rules "65 rules are no fault" 's/if (r->count == RULES_MOST)/if (r->count == RULES_MOST + 1)/'
+wrong rules "a rule of another length is no fault" 's/if (field->length != r->contacts + 1)/if (false)/'
+wrong rules "3 is a sign" 's/if (field->value\[i\] > EITHER)/if (field->value[i] > EITHER + 1)/'
+wrong rules "the last contact is not looked at" '/^static bool rule_fault/,/^}/s/i < r->contacts; i++/i + 1 < r->contacts; i++/'
+wrong rules "a word too large is no fault" 's/if (word >> r->outputs != 0)/if (false)/'
+wrong rules "rules are counted from 1 in a fault" 's/k - FIRST_RULE)/k - FIRST_RULE + 1)/'
+wrong rules "rules are counted from 1 where they share an input" 's/fits the rules %u and %u", input, contacts.text, first, second)/fits the rules %u and %u", input, contacts.text, first + 1, second + 1)/'
+wrong rules "a cut field is none" 's/if (at == length)/if (at == length || !field_at(bytes, length, at, \&field))/'
+wrong rules "a sheet without rules is no fault" 's/k <= FIRST_RULE || at < length/k < FIRST_RULE || at < length/'
+wrong rules "what is behind the first rule is not looked at" 's/k <= FIRST_RULE || at < length/k <= FIRST_RULE/'
+wrong rules "every field of a rule has a good tag" 's/if (field.tag != tag)/if (k < FIRST_RULE \&\& field.tag != tag)/'
+wrong rules "a note before the fields is one of them" 's/at = past_notes(bytes, length, 0);/at = 0;/'
+wrong rules "a note behind a field is one of them" 's/at = past_notes(bytes, length, at + HEAD + field.length);/at += HEAD + field.length;/'
+wrong rules "the last contact has the least weight" 's/(input >> i & 1)))/(input >> (r->contacts - 1 - i) \& 1)))/'
+wrong rules "either is closed" 's/r->rule\[k\]\[i\] == EITHER || /(r->rule[k][i] == EITHER \&\& (input >> i \& 1)) || /'
+wrong rules "rules are named by their numbers in text" 's/if (r->sheet->is_text)/if (false)/'
+wrong rules "the first rule is named twice" 's/r->sheet->line\[second\]/r->sheet->line[first]/'
+wrong rules "the last shared input is named" '/^static void find_shared/,/^}/s/^        return;//'
+wrong rules "a shared input 0 is not seen" '/^static void find_shared/,/^}/s/input = 0;/input = 1;/'
+wrong rules "a shared last input is not seen" '/^static void find_shared/,/^}/s/input < 1u << r->contacts/input + 1 < 1u << r->contacts/'
+wrong rules "the last input without a rule is named" '/^static void find_unruled/,/^}/s/^            return;//'
+wrong rules "an input 0 without a rule is not seen" '/^static void find_unruled/,/^}/s/input = 0;/input = 1;/'
+wrong rules "a last input without a rule is not seen" '/^static void find_unruled/,/^}/s/input < 1u << r->contacts/input + 1 < 1u << r->contacts/'
+wrong rules "the width is that of the contacts from the last on" 's/place >> (r->contacts - 1 - i) & 1/place >> i \& 1/'
+wrong rules "the width is that of the first output" 's/v.outputs = r->outputs;/v.outputs = 1;/'
+wrong rules "the width is left out" 's/refusal == PILGODUR_REFUSAL_FUNCTIONS/false/'
+wrong rules "the shared input is left out" 's/refusal == PILGODUR_REFUSAL_SHARED/false/'
+wrong rules "the input without a rule is left out" 's/refusal == PILGODUR_REFUSAL_UNRULED/false/'
+wrong options "rules takes no -o" 's/rules, 1, 1, TAKES_OUTPUT/rules, 1, 1, 0/'
+wrong options "rules takes two operands" 's/rules, 1, 1, TAKES_OUTPUT/rules, 1, 2, TAKES_OUTPUT/'
+wrong options "rules are drawn" 's/{"rules", rules,/{"rules", draw,/'
 wrong on_netlist "the sheet without its heading" 's/fwrite(text, 1, sheet.length, out)/fwrite(text + 22, 1, sheet.length - 22, out)/'
 wrong on_netlist "the sheet without its last row" 's/fwrite(text, 1, sheet.length, out)/fwrite(text, 1, sheet.length - 22, out)/'
 wrong on_netlist "the sheet without its last line feed" 's/fwrite(text, 1, sheet.length, out)/fwrite(text, 1, sheet.length - 1, out)/'
