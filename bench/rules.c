@@ -43,7 +43,6 @@ static bool outputs_fault(const struct field *field, struct fault *fault)
 
 static bool rule_fault(const struct rules *r, const struct field *field, struct fault *fault)
 {
-    unsigned word = field->length > 0 ? field->value[field->length - 1] : 0;
     if (r->count == RULES_MOST)
         return say(fault, "there are more than %d rules", RULES_MOST);
     if (field->length != r->contacts + 1)
@@ -52,8 +51,8 @@ static bool rule_fault(const struct rules *r, const struct field *field, struct 
     for (unsigned i = 0; i < r->contacts; i++)
         if (field->value[i] > EITHER)
             return say(fault, "rule %u has %u for contact %u, not 0, 1 or 2", r->count, field->value[i], i);
-    if (word >> r->outputs != 0)
-        return say(fault, "rule %u has the word %u, not one below %u", r->count, word, 1u << r->outputs);
+    if (field->value[r->contacts] >> r->outputs != 0)
+        return say(fault, "rule %u has the word %u, not one below %u", r->count, field->value[r->contacts], 1u << r->outputs);
     return false;
 }
 

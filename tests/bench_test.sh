@@ -419,6 +419,7 @@ try rules 'hex:800000 01000101 8000013a 08000101 0900020100 ff0000 0900020201 09
 pipe 'full 12 6 6 | sed "\$s/1:0/-:0/" | pilgodur rules -'
 # Question 20.
 pipe 'rules "1:1"'
+pipe 'rules "0:1"'
 pipe 'rules "0--:0" "10-:1" "111:1"'
 pipe 'split 12 12 1 | sed "\$d" | pilgodur rules -'
 pipe 'full 12 0 6 | sed "3d; 40d" | pilgodur rules -'

@@ -314,7 +314,7 @@ wrong rules "65 rules are no fault" 's/if (r->count == RULES_MOST)/if (r->count 
 wrong rules "a rule of another length is no fault" 's/if (field->length != r->contacts + 1)/if (false)/'
 wrong rules "3 is a sign" 's/if (field->value\[i\] > EITHER)/if (field->value[i] > EITHER + 1)/'
 wrong rules "the last contact is not looked at" '/^static bool rule_fault/,/^}/s/i < r->contacts; i++/i + 1 < r->contacts; i++/'
-wrong rules "a word too large is no fault" 's/if (word >> r->outputs != 0)/if (false)/'
+wrong rules "a word too large is no fault" 's/if (field->value\[r->contacts\] >> r->outputs != 0)/if (false)/'
 wrong rules "rules are counted from 1 in a fault" 's/k - FIRST_RULE)/k - FIRST_RULE + 1)/'
 wrong rules "rules are counted from 1 where they share an input" 's/fits the rules %u and %u", input, contacts.text, first, second)/fits the rules %u and %u", input, contacts.text, first + 1, second + 1)/'
 wrong rules "a cut field is none" 's/if (at == length)/if (at == length || !field_at(bytes, length, at, \&field))/'

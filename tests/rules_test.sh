@@ -37,7 +37,7 @@ by_lines() {
 
 tables=0 wide=0 shared=0 unruled=0
 seed=0
-while [ $((seed = seed + 1)) -le 60 ]; do
+while [ $((seed = seed + 1)) -le 40 ]; do
     for form in bytes noted text answer; do
         "$rulings" $seed $form >$form || complain "seed $seed: no rule sheet"
     done
@@ -75,4 +75,4 @@ done
 
 echo "rules: $tables tables, $wide refused by 17, $shared by 19, $unruled by 20, $malformed malformed, all with notes too, $as_text of these" \
     "as text too, $failures failures"
-[ "$failures" -eq 0 ] && [ $tables -gt 15 ] && [ $wide -gt 0 ] && [ $shared -gt 5 ] && [ $unruled -gt 5 ] && [ $as_text -eq 6 ]
+[ "$failures" -eq 0 ] && [ $tables -gt 10 ] && [ $wide -gt 0 ] && [ $shared -gt 3 ] && [ $unruled -gt 3 ] && [ $as_text -eq 6 ]
