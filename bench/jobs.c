@@ -198,6 +198,9 @@ void use_wide_drawing(unsigned level)
 
 enum { EITHER = 2 };
 
+/* Dice of their own, so that the other files are what they are without rule sheets. */
+static struct dice rule_dice = {1};
+
 static void start_rules(unsigned contacts, unsigned outputs)
 {
     job.contacts = contacts;
@@ -219,7 +222,7 @@ void use_rules_on_six(unsigned contacts, unsigned first)
 {
     struct diagram d;
     uint8_t sign[12];
-    largest_diagram(&dice, 6, &d);
+    largest_diagram(&rule_dice, 6, &d);
     start_rules(contacts, 8);
     memset(sign, EITHER, sizeof sign);
     for (uint32_t input = 0; input < 64; input++) {

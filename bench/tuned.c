@@ -906,28 +906,53 @@ pilgodur_built tuned_from_drawing(const uint8_t *drawing, size_t drawing_len, ui
     return write_table(&f, d.contacts, output, d.outputs, table, table_len);
 }
 
-/* ---- From rules to their table: a set of rules is a word of 64 bits. Fixing a contact leaves a subset; while it has more than one
- * rule the outputs' functions are made from those of its two subsets. ---- */
+/* ---- From rules to their table: a set of rules is a word of 64 bits, and fixing a contact leaves a subset. With at most six contacts
+ * the sets of all inputs are made, and from them truth tables of one word. With more a set is halved while it has more than one rule,
+ * and the outputs' functions are made from those of the halves. ---- */
 
-enum { MOST_RULES = 64, EITHER = 2, SETS = 128 };
+enum { MOST_RULES = 64, SETS = 64 };
 
+static const uint64_t bytes_of_1 = 0x0101010101010101;
+
+/* A bit for each contact tells whether a rule wants it closed, and whether either will do: a low byte for contacts 0 to 7, a high byte
+ * for the others. */
 struct rules {
     unsigned contacts, outputs, count;
-    const uint8_t *rule[MOST_RULES];
-    uint64_t with[12][4]; /* the rules with each sign at a contact; 3 stands for all that are no sign */
+    uint32_t fitting; /* the inputs that fit each rule, summed */
+    uint8_t word[MOST_RULES];
+    uint8_t closed[2][MOST_RULES], either[2][MOST_RULES];
+    uint64_t with_closed[16], with_either[16]; /* of each contact, the rules */
 };
+
+/* The lowest bits of eight bytes. */
+static unsigned gather(uint64_t bytes)
+{
+    return (unsigned)((bytes & bytes_of_1) * 0x0102040810204080 >> 56);
+}
+
+/* Takes 1 to 8 signs, of which the last stands before a place; there are bytes before them. Counts those that are 2; false if one is
+ * above. */
+static bool take_signs(struct rules *r, unsigned half, const uint8_t *end, unsigned count, unsigned *either)
+{
+    uint64_t signs;
+    memcpy(&signs, end - 8, 8);
+    signs >>= 64 - 8 * count;
+    r->closed[half][r->count] = (uint8_t)gather(signs);
+    r->either[half][r->count] = (uint8_t)gather(signs >> 1);
+    *either += (unsigned)((signs >> 1 & bytes_of_1) * bytes_of_1 >> 56);
+    return ((signs & 0xfcfcfcfcfcfcfcfc) | (signs & signs >> 1 & bytes_of_1)) == 0;
+}
 
 /* Takes one rule; false if it is malformed. */
 static bool take_rule(struct rules *r, const uint8_t *sign)
 {
-    uint64_t bit = 1ull << r->count;
-    bool good = sign[r->contacts] >> r->outputs == 0;
-    for (unsigned i = 0; i < r->contacts; i++) {
-        r->with[i][sign[i] & 3] |= bit;
-        good &= sign[i] <= EITHER;
-    }
-    r->rule[r->count++] = sign;
-    return good;
+    unsigned n = r->contacts, either = 0;
+    bool good = take_signs(r, 0, sign + (n < 8 ? n : 8), n < 8 ? n : 8, &either);
+    if (n > 8)
+        good &= take_signs(r, 1, sign + n, n - 8, &either);
+    r->fitting += 1u << either;
+    r->word[r->count++] = sign[n];
+    return good && sign[n] >> r->outputs == 0;
 }
 
 /* Question 18. */
@@ -937,8 +962,7 @@ static bool read_rules(const uint8_t *file, size_t length, struct rules *r)
     if (at == 0 || at + 4 > length || file[at] != 8 || file[at + 1] != 0 || file[at + 2] != 1 || file[at + 3] - 1u > 7)
         return false;
     r->outputs = file[at + 3];
-    r->count = 0;
-    memset(r->with, 0, sizeof r->with);
+    r->count = r->fitting = 0;
     for (at = pass_notes(file, length, at + 4); at < length; at = pass_notes(file, length, at + 4 + r->contacts))
         if (r->count == MOST_RULES || at + 4 + r->contacts > length || file[at] != 9 || file[at + 1] != 0 ||
             file[at + 2] != r->contacts + 1 || !take_rule(r, file + at + 3))
@@ -946,100 +970,240 @@ static bool read_rules(const uint8_t *file, size_t length, struct rules *r)
     return at == length && r->count > 0;
 }
 
-/* Questions 19 and 20. A rule shares an input with each one that differs from it at no contact that both fix. If no two do, every
- * input fits one exactly if as many inputs fit rules as there are. */
-static uint32_t ask_inputs(const struct rules *r)
+/* Turns eight rows of eight bits into eight columns. */
+static uint64_t transposed(uint64_t rows)
 {
-    static const uint8_t opposite[] = {1, 0, [EITHER] = 3};
-    uint64_t all = ~0ull >> (64 - r->count);
-    uint32_t fitting = 0;
-    for (unsigned k = 0; k < r->count; k++) {
-        uint64_t differing = 1ull << k;
-        unsigned either = 0;
-        for (unsigned i = 0; i < r->contacts; i++) {
-            unsigned sign = r->rule[k][i];
-            differing |= r->with[i][opposite[sign]];
-            either += sign == EITHER;
-        }
-        if (differing != all)
-            return 19;
-        fitting += 1u << either;
-    }
-    return fitting == 1u << r->contacts ? 0 : 20;
+    uint64_t moved = (rows ^ rows >> 7) & 0x00aa00aa00aa00aa;
+    rows ^= moved ^ moved << 7;
+    moved = (rows ^ rows >> 14) & 0x0000cccc0000cccc;
+    rows ^= moved ^ moved << 14;
+    moved = (rows ^ rows >> 28) & 0x00000000f0f0f0f0;
+    return rows ^ moved ^ moved << 28;
 }
 
-/* The functions that are made, at most eight that look at one contact first: function 2 + 8l + k is number k of those that look at
- * contact l. And sets of rules with the functions that they lead to, a byte for each output; these hang on the set alone. */
+/* From a byte for each rule, with a bit for each of eight contacts, to a set of rules for each contact. Behind the last rule the bits
+ * are any. */
+static void put_sets(const uint8_t byte[MOST_RULES], unsigned rules, uint64_t set[8])
+{
+    uint64_t rows;
+    memset(set, 0, 8 * sizeof *set);
+    for (unsigned k = 0; k < rules; k += 8) {
+        memcpy(&rows, byte + k, 8);
+        rows = transposed(rows);
+        for (unsigned i = 0; i < 8; i++)
+            set[i] |= (rows >> 8 * i & 255) << k;
+    }
+}
+
+/* Questions 19 and 20 of at most six contacts; makes the truth table of each output, contact 0 weighing most in the places. */
+static uint32_t put_truths(const struct rules *r, uint64_t truth[8])
+{
+    uint64_t set[64];
+    uint8_t word[64];
+    bool shared = false, unruled = false;
+    set[0] = ~0ull >> (64 - r->count);
+    memset(word, 0, 8); /* with one or two contacts there are fewer */
+    for (unsigned i = 0; i < r->contacts; i++)
+        for (unsigned place = 1u << i; place-- > 0;) {
+            uint64_t both = set[place];
+            set[2 * place] = both & ~r->with_closed[i];
+            set[2 * place + 1] = both & (r->with_closed[i] | r->with_either[i]);
+        }
+    for (unsigned place = 0; place < 1u << r->contacts; place++) {
+        shared |= (set[place] & (set[place] - 1)) != 0;
+        unruled |= set[place] == 0;
+        word[place] = r->word[set[place] == 0 ? 0 : __builtin_ctzll(set[place])];
+    }
+    put_sets(word, 1u << r->contacts, truth);
+    return shared ? 19 : unruled ? 20 : 0;
+}
+
+/* The truth tables of a level by first mention. */
+struct truths {
+    unsigned width;
+    uint64_t of[17];
+};
+
+static uint8_t truth_place(struct truths *t, uint64_t truth)
+{
+    unsigned place = 0;
+    t->of[t->width] = truth;
+    while (t->of[place] != truth)
+        place++;
+    t->width += place == t->width;
+    return (uint8_t)place;
+}
+
+/* Writes the table of truth tables of one word: question 17, then 9. */
+static pilgodur_built write_truths(const struct rules *r, const uint64_t truth[8], uint8_t *table, size_t table_len)
+{
+    uint8_t made[PILGODUR_TABLE_MAX], *at = made + 7;
+    struct truths levels[7];
+    levels[0].width = 0;
+    memcpy(made, (uint8_t[]){1, 0, 1, (uint8_t)r->contacts, 2, 0, (uint8_t)r->outputs}, 7);
+    for (unsigned j = 0; j < r->outputs; j++)
+        *at++ = truth_place(&levels[0], truth[j]);
+    for (unsigned l = 0; l < r->contacts; l++) {
+        struct truths *now = &levels[l], *next = &levels[l + 1];
+        unsigned size = 1u << (r->contacts - l - 1);
+        memcpy(at, (uint8_t[]){3, 0, (uint8_t)(2 * now->width)}, 3);
+        at += 3;
+        next->width = 0;
+        for (unsigned u = 0; u < now->width; u++, at += 2) {
+            uint64_t zero = now->of[u] & ((1ull << size) - 1), one = now->of[u] >> size;
+            at[0] = size == 1 ? (uint8_t)zero : truth_place(next, zero);
+            at[1] = size == 1 ? (uint8_t)one : truth_place(next, one);
+        }
+        if (next->width > 8)
+            return (pilgodur_built){17, 0};
+    }
+    size_t length = (size_t)(at - made);
+    if (table_len < length)
+        return (pilgodur_built){9, 0};
+    memcpy(table, made, length);
+    return (pilgodur_built){0, (uint32_t)length};
+}
+
+/* Whether two rules differ at no contact that both fix. */
+static bool any_shared(const struct rules *r)
+{
+    for (unsigned k = 0; k < r->count; k++) {
+        uint64_t sharing = ~0ull >> (64 - r->count);
+        for (unsigned i = 0; i < r->contacts; i++) {
+            bool closed = r->with_closed[i] >> k & 1, either = r->with_either[i] >> k & 1;
+            sharing &= either ? ~0ull : closed ? r->with_closed[i] | r->with_either[i] : ~r->with_closed[i];
+        }
+        if (sharing != 1ull << k)
+            return true;
+    }
+    return false;
+}
+
+typedef uint16_t eight __attribute__((vector_size(16)));
+
+/* The functions that are made: contact l and its opposite have the numbers 2 + 10l and 3 + 10l, and at most eight others that look at
+ * contact l first have the next; in `edges` they have the functions that are left with it open and closed, a byte each. And sets of
+ * rules, of more than one each, with the first contact that some rule fixes and the functions to which they lead, a byte for each
+ * output. */
 struct sets {
     const struct rules *rules;
-    struct functions *functions;
+    eight edges[12];
     unsigned width[12];
-    bool wide; /* there is a ninth function */
+    bool wide;   /* there is a ninth function */
+    bool shared; /* some input fits two rules, or none */
     uint64_t set[SETS], outputs[SETS];
+    uint8_t level[SETS];
 };
 
 static uint64_t function_at(struct sets *s, unsigned level, unsigned zero, unsigned one)
 {
-    uint32_t key = level << 16 | zero << 8 | one, *keys = s->functions->key + 2 + 8 * level;
-    unsigned k = 0;
+    uint64_t pair[2];
+    uint16_t edges = (uint16_t)(zero << 8 | one);
+    eight found = (eight)(s->edges[level] == edges) & (eight){1, 2, 3, 4, 5, 6, 7, 8};
     if (zero == one)
         return zero;
-    while (k < s->width[level] && keys[k] != key)
-        k++;
-    s->wide |= k == 8;
-    if (k == s->width[level] && k < 8)
-        keys[s->width[level]++] = key;
-    return 2 + 8 * level + k % 8;
+    if ((zero | one) == 1)
+        return 2 + 10 * level + zero;
+    memcpy(pair, &found, sizeof pair);
+    pair[0] |= pair[1];
+    pair[0] |= pair[0] >> 32;
+    unsigned place = (pair[0] | pair[0] >> 16) & 15;
+    if (place == 0 && s->width[level] < 8) {
+        s->edges[level][s->width[level]] = edges;
+        place = ++s->width[level];
+    }
+    s->wide |= place == 0;
+    return 3 + 10 * level + place;
 }
 
-/* A byte 0 or 1 for each bit of a permit word. */
-static uint64_t constants_of(unsigned word)
+/* The same for all outputs at once, where all that is left are constants. */
+static uint64_t functions_of_one(unsigned level, uint64_t zero, uint64_t one)
 {
-    uint64_t bits = (uint64_t)word * 0x0101010101010101 & 0x8040201008040201;
-    return (bits + 0x7f7f7f7f7f7f7f7f) >> 7 & 0x0101010101010101;
+    uint64_t different = zero ^ one;
+    return (zero & ~different) + different * (2 + 10 * level) + (zero & different);
 }
 
-/* Two rules differ at some contact, so there is one that is fixed by some rule of the set. */
+/* A byte 0 or 1 for each bit of the permit word of the only rule in a set, which must fix no contact from a level on. */
+static uint64_t constants_of(struct sets *s, unsigned level, uint64_t set)
+{
+    unsigned k = (unsigned)__builtin_ctzll(set), n = s->rules->contacts;
+    unsigned either = s->rules->either[0][k] | (n > 8 ? s->rules->either[1][k] << 8 : 0);
+    uint64_t bits = s->rules->word[k] * bytes_of_1 & 0x8040201008040201;
+    s->shared |= (either | ((1u << level) - 1)) != (1u << n) - 1;
+    return (bits + 0x7f7f7f7f7f7f7f7f) >> 7 & bytes_of_1;
+}
+
 static uint64_t functions_of(struct sets *s, unsigned level, uint64_t set)
 {
     const struct rules *r = s->rules;
-    unsigned slot = set * 0x9e3779b97f4a7c15 >> 57;
+    unsigned slot = set * 0x9e3779b97f4a7c15 >> 58;
     uint64_t made = 0;
-    if ((set & (set - 1)) == 0)
-        return constants_of(r->rule[__builtin_ctzll(set)][r->contacts]);
-    if (s->set[slot] == set || s->wide)
-        return s->outputs[slot];
-    while ((set & ~r->with[level][EITHER]) == 0)
+    if ((set & (set - 1)) == 0 && set != 0)
+        return constants_of(s, level, set);
+    while (level < r->contacts && (set & ~r->with_either[level]) == 0)
         level++;
-    uint64_t zero = functions_of(s, level + 1, set & ~r->with[level][1]);
-    uint64_t one = functions_of(s, level + 1, set & ~r->with[level][0]);
-    for (unsigned j = 0; j < 8 * r->outputs; j += 8)
-        made |= function_at(s, level, zero >> j & 255, one >> j & 255) << j;
+    s->shared |= level == r->contacts;
+    if (s->shared || (s->set[slot] == set && s->level[slot] == level))
+        return s->outputs[slot];
+    uint64_t zero = functions_of(s, level + 1, set & ~r->with_closed[level]);
+    uint64_t one = functions_of(s, level + 1, set & (r->with_closed[level] | r->with_either[level]));
+    if (((zero | one) & ~bytes_of_1) == 0)
+        made = functions_of_one(level, zero, one);
+    else
+        for (unsigned j = 0; j < 8 * r->outputs; j += 8)
+            made |= function_at(s, level, zero >> j & 255, one >> j & 255) << j;
     s->set[slot] = set;
+    s->level[slot] = (uint8_t)level;
     s->outputs[slot] = made;
     return made;
+}
+
+/* The keys of the functions, as a drawing's have them. */
+static void put_keys(const struct sets *s, struct functions *f)
+{
+    f->key[0] = f->key[1] = s->rules->contacts << 16;
+    for (uint32_t l = 0; l < s->rules->contacts; l++) {
+        uint32_t *key = f->key + 2 + 10 * l;
+        key[0] = l << 16 | 1;
+        key[1] = l << 16 | 1 << 8;
+        for (unsigned k = 0; k < s->width[l]; k++)
+            key[2 + k] = l << 16 | s->edges[l][k];
+    }
+}
+
+/* Makes the functions of all outputs: question 19, where as many inputs fit rules as there are, and question 17 in part. */
+static uint32_t find_rule_functions(const struct rules *r, struct functions *f, uint8_t output[8])
+{
+    struct sets s;
+    s.rules = r;
+    s.wide = s.shared = false;
+    memset(s.edges, 0, sizeof s.edges);
+    memset(s.width, 0, sizeof s.width);
+    memset(s.set, 0, sizeof s.set);
+    uint64_t outputs = functions_of(&s, 0, ~0ull >> (64 - r->count));
+    memcpy(output, &outputs, 8);
+    put_keys(&s, f);
+    return s.shared ? 19 : s.wide ? 17 : 0;
 }
 
 pilgodur_built tuned_from_rules(const uint8_t *rules, size_t rules_len, uint8_t *table, size_t table_len)
 {
     struct rules r;
     struct functions f;
-    struct sets s;
+    uint64_t truth[8];
     uint8_t output[8];
     if (!read_rules(rules, rules_len, &r))
         return (pilgodur_built){18, 0};
-    uint32_t refusal = ask_inputs(&r);
+    for (unsigned half = 0; half < (r.contacts > 8 ? 2 : 1); half++) {
+        put_sets(r.closed[half], r.count, r.with_closed + 8 * half);
+        put_sets(r.either[half], r.count, r.with_either + 8 * half);
+    }
+    if (r.contacts > 6 && r.fitting != 1u << r.contacts)
+        return (pilgodur_built){r.fitting > 1u << r.contacts || any_shared(&r) ? 19 : 20, 0};
+    uint32_t refusal = r.contacts > 6 ? find_rule_functions(&r, &f, output) : put_truths(&r, truth);
     if (refusal != 0)
         return (pilgodur_built){refusal, 0};
-    s.rules = &r;
-    s.functions = &f;
-    s.wide = false;
-    memset(s.width, 0, sizeof s.width);
-    memset(s.set, 0, sizeof s.set);
-    f.key[0] = f.key[1] = r.contacts << 16;
-    uint64_t outputs = functions_of(&s, 0, ~0ull >> (64 - r.count));
-    memcpy(output, &outputs, 8);
-    if (s.wide)
-        return (pilgodur_built){17, 0};
+    if (r.contacts <= 6)
+        return write_truths(&r, truth, table, table_len);
     return write_table(&f, r.contacts, output, r.outputs, table, table_len);
 }
