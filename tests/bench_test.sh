@@ -486,6 +486,7 @@ pipe 'pilgodur draw gallery.rules'
 pipe 'pilgodur rules gallery.drawing'
 pipe 'printf "0" >bad.rules; pilgodur rules bad.rules -o ruled.table; cmp ruled.table gallery.table'
 try rules hex:303a310a313a30
+try rules hex:0900020200
 try rules hex:010
 try rules no-such.rules
 try rules
