@@ -196,51 +196,40 @@ void use_wide_drawing(unsigned level)
 
 /* ---- Rule sheets. ---- */
 
-enum { EITHER = 2 };
-
 /* Dice of their own, so that the other files are what they are without rule sheets. */
 static struct dice rule_dice = {1};
 
-static void start_rules(unsigned contacts, unsigned outputs)
+static void use_rules(const struct rules *rules)
 {
-    job.contacts = contacts;
-    memcpy(job.rules, (uint8_t[]){1, 0, 1, (uint8_t)contacts, 8, 0, 1, (uint8_t)outputs}, 8);
-    job.rules_length = 8;
-}
-
-static void add_rule(const uint8_t *sign, uint32_t word)
-{
-    uint8_t *at = job.rules + job.rules_length;
-    *at = 9;
-    at = put_two(at + 1, job.contacts + 1);
-    memcpy(at, sign, job.contacts);
-    at[job.contacts] = (uint8_t)word;
-    job.rules_length += 3 + job.contacts + 1;
+    job.contacts = rules->contacts;
+    job.rules_length = write_rules(rules, job.rules);
 }
 
 void use_rules_on_six(unsigned contacts, unsigned first)
 {
     struct diagram d;
-    uint8_t sign[12];
+    struct rules rules = {.contacts = contacts, .outputs = 8, .count = 64};
     largest_diagram(&rule_dice, 6, &d);
-    start_rules(contacts, 8);
-    memset(sign, EITHER, sizeof sign);
     for (uint32_t input = 0; input < 64; input++) {
+        struct rule *rule = &rules.rule[input];
+        memset(rule->fits, EITHER, sizeof rule->fits);
         for (unsigned i = 0; i < 6; i++)
-            sign[first + i] = input >> i & 1;
-        add_rule(sign, word_at(&d, input));
+            rule->fits[first + i] = input >> i & 1;
+        rule->word = (uint8_t)word_at(&d, input);
     }
+    use_rules(&rules);
 }
 
-/* A rule, split by so many of the last contacts; each part has a word. */
-static void add_parts(uint8_t *sign, unsigned split, const uint8_t *word)
+/* Adds a rule, split by so many of the last contacts; each part has a word. */
+static void add_parts(struct rules *rules, const struct rule *whole, unsigned split, const uint8_t *word)
 {
     for (unsigned part = 0; part < 1u << split; part++) {
+        struct rule *rule = &rules->rule[rules->count++];
+        *rule = *whole;
+        rule->word = word[part];
         for (unsigned i = 0; i < split; i++)
-            sign[12 - split + i] = part >> i & 1;
-        add_rule(sign, word[part]);
+            rule->fits[12 - split + i] = part >> i & 1;
     }
-    memset(sign + 12 - split, EITHER, split);
 }
 
 /* One of the first nine contacts is open and those before it are closed, or all nine are closed and each setting of the last three but
@@ -249,29 +238,31 @@ void use_late_rules(void)
 {
     static const uint8_t none[32], own[8] = {0x01, 0x02, 0x04, 0x08, 0x10, 0x20, 0x40, 0};
     static const unsigned splits[9] = {5, 4, 1};
-    uint8_t sign[12];
-    start_rules(12, 8);
-    memset(sign, EITHER, sizeof sign);
+    struct rules rules = {.contacts = 12, .outputs = 8};
+    struct rule rule;
+    memset(rule.fits, EITHER, sizeof rule.fits);
     for (unsigned open = 0; open < 9; open++) {
-        sign[open] = 0;
-        add_parts(sign, splits[open], none);
-        sign[open] = 1;
+        rule.fits[open] = 0;
+        add_parts(&rules, &rule, splits[open], none);
+        rule.fits[open] = 1;
     }
-    add_parts(sign, 3, own);
+    add_parts(&rules, &rule, 3, own);
+    use_rules(&rules);
 }
 
 void use_one_rule(void)
 {
-    start_rules(1, 1);
-    add_rule((uint8_t[]){EITHER}, 1);
+    struct rules rules;
+    one_rule(1, 1, 1, &rules);
+    use_rules(&rules);
 }
 
-void share_input(void)
+void widen_last_rule(void)
 {
     job.rules[job.rules_length - 2] = EITHER; /* the last contact */
 }
 
-void leave_inputs(void)
+void narrow_last_rule(void)
 {
     job.rules[job.rules_length - 1 - job.contacts] = 1; /* contact 0 */
 }

@@ -3,10 +3,9 @@
 #define JOBS_H
 
 #include "../include/pilgodur.h"
-#include "../tests/drawings.h"
+#include "../tests/rulesheets.h"
 
 enum { MOST_GATES = 10560, BUFFER = PILGODUR_SHEET_MAX }; /* of a board without lamp; a sheet is longer than all else that is written */
-enum { RULES_MAX = 4 + 4 + 64 * (3 + 12 + 1) };
 
 struct job {
     uint8_t table[TABLE_MAX];
@@ -72,9 +71,9 @@ void use_late_rules(void);
 /* A rule sheet of one contact, one output and one rule. */
 void use_one_rule(void);
 
-/* Makes the last of the rules on six contacts share an input with the one before, and leave half of its inputs out. */
-void share_input(void);
-void leave_inputs(void);
+/* Makes the last of the rules on six contacts share inputs with another, and leave half of its inputs out. */
+void widen_last_rule(void);
+void narrow_last_rule(void);
 
 /* Makes `hold` the one that shows latest, and returns the input at which it does. */
 uint32_t hold_latest_line(void);

@@ -283,10 +283,10 @@ static void add_rules(void)
     use_one_rule();
     add_row("from-rules, 1 contact, 1 output, 1 rule", do_from_rules, 1);
     use_rules_on_six(12, 6);
-    share_input();
+    widen_last_rule();
     add_row("from-rules, 12 contacts, 64 rules, refused by 19", do_from_rules, 1);
     use_rules_on_six(12, 6);
-    leave_inputs();
+    narrow_last_rule();
     add_row("from-rules, 12 contacts, 64 rules, refused by 20", do_from_rules, 1);
 }
 

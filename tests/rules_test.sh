@@ -37,7 +37,7 @@ by_lines() {
 
 tables=0 wide=0 shared=0 unruled=0
 seed=0
-while [ $((seed = seed + 1)) -le 40 ]; do
+while [ $((seed = seed + 1)) -le 30 ]; do
     for form in bytes noted text answer; do
         "$rulings" $seed $form >$form || complain "seed $seed: no rule sheet"
     done
@@ -57,11 +57,11 @@ while [ $((seed = seed + 1)) -le 40 ]; do
     esac
 done
 
-# A message names the file, then what is wrong; of a text also the line.
+# The kinds of tests/malformed.h. A message names the file, then what is wrong; of a text also the line.
 malformed=0 as_text=0
 kind=-1
-while [ $((kind = kind + 1)) -le 20 ]; do
-    "$rulings" $kind bytes $kind >bytes && "$rulings" $kind noted $kind >noted || complain "kind $kind: no rule sheet"
+while [ $((kind = kind + 1)) -le 40 ]; do
+    "$rulings" $kind bytes $kind >bytes && "$rulings" $kind noted $kind >noted || continue
     [ "$(ruled bytes)" = 1 ] && grep -q '^pilgodur: bytes: [^:]*: refused, number 18: ' bytes.said ||
         complain "kind $kind: $(cat bytes.said)"
     [ "$(ruled noted)" = 1 ] && [ "$(sed 's/bytes:/noted:/' bytes.said)" = "$(cat noted.said)" ] ||
@@ -75,4 +75,4 @@ done
 
 echo "rules: $tables tables, $wide refused by 17, $shared by 19, $unruled by 20, $malformed malformed, all with notes too, $as_text of these" \
     "as text too, $failures failures"
-[ "$failures" -eq 0 ] && [ $tables -gt 10 ] && [ $wide -gt 0 ] && [ $shared -gt 3 ] && [ $unruled -gt 3 ] && [ $as_text -eq 6 ]
+[ "$failures" -eq 0 ] && [ $tables -gt 8 ] && [ $wide -gt 0 ] && [ $shared -gt 2 ] && [ $unruled -gt 2 ] && [ $malformed -eq 40 ] && [ $as_text -eq 7 ]
