@@ -77,17 +77,17 @@ module _ (s : RuleSheet) where
         sym (ap (λ (b : Bool). cond b Shared Apart) met)
 
   -- The same by counts and a rule that are those of the sheet.
-  module _ (n m fixed i : ℕ) (rule : List ℕ) (c : Cube) (contacts : s .contacts ≡ n) (outputs : s .outputs ≡ m) (size : fixed ≡ n - 6)
+  module _ (n m size i : ℕ) (rule : List ℕ) (c : Cube) (contacts : s .contacts ≡ n) (outputs : s .outputs ≡ m) (sized : size ≡ 2 ^ (n - 6))
       (same : rule ≡ s .rule i) (cube : CubeOf n rule c) (ruled truths : List ℕ) (g : Gathered s i ruled truths) where
     own-cube : CubeOf (s .contacts) (s .rule i) c
     own-cube = rw (contacts, ← same) cube
 
-    pub gathered-next : {ruled' truths' : List ℕ} → Added (2 ^ fixed) m c (getD rule n 0) (2 ^ fixed) ruled truths ruled' truths' →
+    pub gathered-next : {ruled' truths' : List ℕ} → Added size m c (getD rule n 0) size ruled truths ruled' truths' →
         Gathered s (i + 1) ruled' truths'
-    gathered-next a = gathered-one i c own-cube ruled truths g (rw (contacts, outputs, ← same, ← size) a)
+    gathered-next a = gathered-one i c own-cube ruled truths g (rw (contacts, outputs, ← same, ← sized) a)
 
-    pub shared-next : i < s .count → (w : ℕ) → w < 2 ^ fixed → Meets c w ruled → Shared ≡ sharesOf s
-    shared-next few w h m = shared i c own-cube ruled truths g few w (rw (contacts, ← size) h) m
+    pub shared-next : i < s .count → (w : ℕ) → w < size → Meets c w ruled → Shared ≡ sharesOf s
+    shared-next few w h m = shared i c own-cube ruled truths g few w (rw (contacts, ← sized) h) m
 
   -- No input fits two rules.
   pub all-apart : (count : ℕ) (ruled truths : List ℕ) → s .count ≡ count → Gathered s count ruled truths → Apart ≡ sharesOf s

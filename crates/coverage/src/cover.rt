@@ -4,7 +4,8 @@ use crate::cube::Cube;
 ghost use mathlib.Core.Path.{_≡_};
 ghost use mathlib.Core.Bool.{cond};
 ghost use Prim.Native.Nat.{_*_, _-_, _^_, _≤_, _<_};
-ghost use lib.ListN.{length};
+ghost use lib.Bits.{bitOr};
+ghost use lib.ListN.{length, getD, set};
 ghost use Rattle.rulesheet.specs.Rules.{ruleSheetIn, hasOutput};
 ghost use Rattle.coverage.specs.declared.cover.Shares.the-variants.{Apart};
 ghost use Rattle.coverage.specs.Coverage.{sharesOf};
@@ -22,22 +23,26 @@ pub enum Gaps {
     Open,
 }
 
-// A pattern, if a permit word has output j; else none of it.
-fn pattern_for(word: u8, j: usize, pattern: u64) -> u64
-    requires { ⌜ j < 8 ⌝ }
-    ensures { λ r. ⌜ r ≡ cond (hasOutput word j) pattern 0 ⌝ }
+// Puts a pattern into a word of a truth table, if a permit word has the table's output.
+fn mark_one(truths: &mut [u64], at: usize, word: u8, j: usize, pattern: u64)
+    requires { ⌜ (j < 8) × (at < length (now truths)) × (length (now truths) ≤ 512) ⌝ }
+    ensures { λ _. ⌜ now (truths .exit) ≡ set (now (truths .entry)) at (bitOr (getD (now (truths .entry)) at 0) (cond (hasOutput word j) pattern 0)) ⌝ }
 {
-    if (word >> j) % 2 == 1 { pattern } else { 0 }
+    if (word >> j) % 2 == 0 {
+        return;
+    }
+    truths[at] = truths[at] | pattern;
 }
 
 // Puts a pattern into word w of the truth tables of the outputs that a permit word has.
-fn mark(truths: &mut [u64], fixed: usize, m: usize, w: usize, word: u8, pattern: u64)
-    requires { ⌜ (fixed ≤ 6) × (m ≤ 8) × (w < 2 ^ fixed) × (m * 2 ^ fixed ≤ length (now truths)) × (length (now truths) ≤ 512) ⌝ }
-    ensures { λ _. ⌜ Marked (2 ^ fixed) m w word pattern (now (truths .entry)) (now (truths .exit)) ⌝ }
+fn mark(truths: &mut [u64], words: usize, m: usize, w: usize, word: u8, pattern: u64)
+    requires { ⌜ (m ≤ 8) × (w < words) × (m * words ≤ length (now truths)) × (length (now truths) ≤ 512) ⌝ }
+    ensures { λ _. ⌜ Marked words m w word pattern (now (truths .entry)) (now (truths .exit)) ⌝ }
 {
+    let mut at = w;
     for j in 0..m {
-        let at = (j << fixed) + w;
-        truths[at] = truths[at] | pattern_for(word, j, pattern);
+        mark_one(truths, at, word, j, pattern);
+        at = at + words;
     }
 }
 
@@ -46,15 +51,14 @@ fn mark(truths: &mut [u64], fixed: usize, m: usize, w: usize, word: u8, pattern:
 fn add_word(
     cube: Cube,
     word: u8,
-    fixed: usize,
+    words: usize,
     m: usize,
     w: usize,
     ruled: &mut [u64],
     truths: &mut [u64],
 ) -> bool
-    requires { ⌜ (fixed ≤ 6) × (m ≤ 8) × (w < 2 ^ fixed) × (2 ^ fixed ≤ length (now ruled)) × (m * 2 ^ fixed ≤ length (now truths))
-        × (length (now truths) ≤ 512) ⌝ }
-    ensures { λ r. ⌜ PutIf r (2 ^ fixed) m cube word w (now (ruled .entry)) (now (truths .entry)) (now (ruled .exit)) (now (truths .exit)) ⌝ }
+    requires { ⌜ (m ≤ 8) × (w < words) × (words ≤ length (now ruled)) × (m * words ≤ length (now truths)) × (length (now truths) ≤ 512) ⌝ }
+    ensures { λ r. ⌜ PutIf r words m cube word w (now (ruled .entry)) (now (truths .entry)) (now (ruled .exit)) (now (truths .exit)) ⌝ }
 {
     if w & cube.mask != cube.value {
         return false;
@@ -64,7 +68,7 @@ fn add_word(
         return true;
     }
     ruled[w] = before | cube.pattern;
-    mark(truths, fixed, m, w, word, cube.pattern);
+    mark(truths, words, m, w, word, cube.pattern);
     false
 }
 
@@ -72,17 +76,16 @@ fn add_word(
 fn add_cube(
     cube: Cube,
     word: u8,
-    fixed: usize,
+    words: usize,
     m: usize,
     ruled: &mut [u64],
     truths: &mut [u64],
 ) -> bool
-    requires { ⌜ (fixed ≤ 6) × (m ≤ 8) × (2 ^ fixed ≤ length (now ruled)) × (m * 2 ^ fixed ≤ length (now truths))
-        × (length (now truths) ≤ 512) ⌝ }
-    ensures { λ r. ⌜ AddedIf r (2 ^ fixed) m cube word (now (ruled .entry)) (now (truths .entry)) (now (ruled .exit)) (now (truths .exit)) ⌝ }
+    requires { ⌜ (m ≤ 8) × (words ≤ length (now ruled)) × (m * words ≤ length (now truths)) × (length (now truths) ≤ 512) ⌝ }
+    ensures { λ r. ⌜ AddedIf r words m cube word (now (ruled .entry)) (now (truths .entry)) (now (ruled .exit)) (now (truths .exit)) ⌝ }
 {
-    for w in 0..1usize << fixed {
-        if add_word(cube, word, fixed, m, w, ruled, truths) {
+    for w in 0..words {
+        if add_word(cube, word, words, m, w, ruled, truths) {
             return true;
         }
     }
@@ -104,12 +107,13 @@ pub fn ask_shares(
     ensures { λ r. ⌜ r ≡ sharesOf (ruleSheetIn (now (file .entry))) ⌝ }
     ensures { λ r. ⌜ (r ≡ Apart → Gathered (ruleSheetIn (now (file .entry))) count (now (ruled .exit)) (now (truths .exit))) ⌝ }
 {
+    let words = 1usize << fixed;
     let mut place = at;
     for _ in 0..count {
         let taken = files::take(file, place);
         let rule = fields::value(file, taken.field);
         let cube = cube::cube_of(rule, n, fixed);
-        if add_cube(cube, rule[n], fixed, m, ruled, truths) {
+        if add_cube(cube, rule[n], words, m, ruled, truths) {
             return Shares::Shared;
         }
         place = taken.past;

@@ -1,13 +1,14 @@
 -- `cover::ask_shares` meets its contract. The loop's invariant: the rules passed are gathered, and the others follow at the place.
 use borrow.Author.Needs.{needs}
 use native.Mathlib.Omega.{arith}
-use Prim.Native.Nat.{ℕ, _+_, _-_, _^_, _≤_, _<_}
+use Prim.Native.Nat.{ℕ, _+_, _*_, _-_, _%_, _^_, _≤_, _<_}
 use mathlib.Core.Path.{_≡_, refl, sym, ap, _∙_}
 use mathlib.Core.List.{List}
 use lib.ListN.{length}
 use Rattle.fields.specs.Fields.{fieldsFrom}
 use Rattle.files.specs.Inner.Row.{behind}
 use Rattle.files.proofs.Taking.{walked-on}
+use Rattle.bits.proofs.Bits.{bits-of}
 use Rattle.rulesheet.specs.Rules.{RuleSheet, ruleSheetIn}
 use Rattle.coverage.specs.Inner.Cubes.{Gathered}
 use Rattle.coverage.proofs.Gathers.{gathered-none, gathered-next, shared-next, all-apart}
@@ -17,12 +18,12 @@ use Rattle.coverage.proofs.cover.ask_shares.Statement.{statement}
 use Rattle.coverage.proofs.cover.ask_shares.Tie as tie
 
 abbrev Inv-loop : tie.InvT-loop
-Inv-loop file at n fixed m count ruled₀ truths₀ place₀ counter₀ ruled truths place counter =
+Inv-loop file at n fixed m count ruled₀ truths₀ words place₀ counter₀ ruled truths place counter =
     (counter ≤ count) × (fieldsFrom file place ≡ behind counter (fieldsFrom file at)) × (length ruled ≡ length ruled₀)
     × (length truths ≡ length truths₀) × Gathered (ruleSheetIn file) counter ruled truths
 
 abbrev μ-loop : tie.MeasureT-loop
-μ-loop file at n fixed m count ruled₀ truths₀ place₀ counter₀ ruled truths place counter = count - counter
+μ-loop file at n fixed m count ruled₀ truths₀ words place₀ counter₀ ruled truths place counter = count - counter
 
 abbrev sheet : tie.After-value Inv-loop μ-loop → RuleSheet
 sheet c = ruleSheetIn (c .before .before .before .before .before .before .before .args .file .now)
@@ -41,6 +42,14 @@ rule-size c =
     let few : c .before .before .before .loop .counter < sheet c .count = omega (arith, counts .2, c .before .before .loop-test .taken) in
     ap length (the-rule c) ∙ lies-limited (start .args .file .now) (start .pre .0) .size _ few ∙ ap (λ (n : ℕ). n + 1) (counts .0)
 
+-- How many words there are.
+sized : (c : tie.After-value Inv-loop μ-loop) → let a = c .before .before .before .before .before .before .before .args in 1 * 2 ^ a .fixed % 2 ^ 64 ≡ 2 ^ (a .n - 6)
+sized c =
+    let start = c .before .before .before .before .before .before .before in
+    let limits = lies-limited (start .args .file .now) (start .pre .0) in
+    let counts = lies-counts (start .args .file .now) (start .pre .0) in
+    bits-of _ (omega (arith, start .pre .1, limits .contacts .1, counts .0)) ∙ ap (_^_ 2) (start .pre .1)
+
 -- The buffers after a rule is added.
 abbrev ruled' : tie.After-add-cube Inv-loop μ-loop → List ℕ
 ruled' c = c .add-cube .last .1 .1 .1 .1 .0
@@ -55,6 +64,11 @@ same-ruled c = c .add-cube .kept .1 .1 .1 .1 .0 ∙ c .before .before .before .b
 same-truths : (c : tie.After-add-cube Inv-loop μ-loop) →
     length (truths' c) ≡ length (c .before .before .before .before .before .before .before .before .before .before .before .before .args .truths .now)
 same-truths c = c .add-cube .kept .1 .1 .1 .1 .1 .0 ∙ c .before .before .before .before .before .before .before .before .loop .inv .3
+
+shl-words : tie.Need-shl-words Inv-loop μ-loop
+shl-words c =
+    let start = c .before .before .before in
+    omega (arith, start .pre .1, lies-limited (start .args .file .now) (start .pre .0) .contacts .1, lies-counts (start .args .file .now) (start .pre .0) .0)
 
 loop-holds : tie.Need-loop-holds Inv-loop μ-loop
 loop-holds c =
@@ -85,8 +99,7 @@ add-cube-requires c κs =
     let limits = lies-limited (start .args .file .now) (start .pre .0) in
     let counts = lies-counts (start .args .file .now) (start .pre .0) in
     let room = start .pre .2 .room in
-    let size : 2 ^ start .args .fixed ≡ 2 ^ (start .args .n - 6) = ap (_^_ 2) (start .pre .1) in (
-      omega (arith, limits .contacts .1, counts .0, start .pre .1),
+    let size = sized value in (
       omega (arith, limits .outputs .1, counts .1),
       omega (arith, size, room .0, loop .inv .2),
       rw size (omega (arith, room .1, loop .inv .3)),
@@ -107,8 +120,8 @@ returns c =
     let start = value .before .before .before .before .before .before .before in
     let a = start .args in
     let counts = lies-counts (a .file .now) (start .pre .0) in
-    let (w, h, met) = cube-met (2 ^ a .fixed) (a .m) _ _ (loop .ruled) (loop .truths) (ruled' add) (truths' add) _ (c .if1 .taken) (add .add-cube .ensures) in
-    let shares = shared-next (sheet value) (a .n) (a .m) (a .fixed) (loop .counter) _ _ (counts .0) (counts .1) (start .pre .1) (the-rule value) (add .before .before .before .before .cube-of .ensures) (loop .ruled) (loop .truths) (loop .inv .4) (omega (arith, counts .2, value .before .before .loop-test .taken)) w h met in
+    let (w, h, met) = cube-met _ (a .m) _ _ (loop .ruled) (loop .truths) (ruled' add) (truths' add) _ (c .if1 .taken) (add .add-cube .ensures) in
+    let shares = shared-next (sheet value) (a .n) (a .m) _ (loop .counter) _ _ (counts .0) (counts .1) (sized value) (the-rule value) (add .before .before .before .before .cube-of .ensures) (loop .ruled) (loop .truths) (loop .inv .4) (omega (arith, counts .2, value .before .before .loop-test .taken)) w h met in
     (shares, λ e. absurd (let z : _≡_ {A = ℕ} 0 1 = cc in omega arith))
 
 add-counter : tie.Need-add-counter Inv-loop μ-loop
@@ -129,9 +142,9 @@ loop-again c =
       walked-on (a .file .now) (fieldsFrom (a .file .now) (a .at)) (loop .counter) (loop .inv .1) (value .before .take .ensures),
       same-ruled add,
       same-truths add,
-      gathered-next (sheet value) (a .n) (a .m) (a .fixed) (loop .counter) _ _ (counts .0) (counts .1) (start .pre .1) (the-rule value)
+      gathered-next (sheet value) (a .n) (a .m) _ (loop .counter) _ _ (counts .0) (counts .1) (sized value) (the-rule value)
           (add .before .before .before .before .cube-of .ensures) (loop .ruled) (loop .truths) (loop .inv .4)
-          (cube-added (2 ^ a .fixed) (a .m) _ _ (loop .ruled) (loop .truths) (ruled' add) (truths' add) _ (c .if1 .left) (add .add-cube .ensures)),
+          (cube-added _ (a .m) _ _ (loop .ruled) (loop .truths) (ruled' add) (truths' add) _ (c .if1 .left) (add .add-cube .ensures)),
     )
 
 same-length-3 : tie.Need-same-length-3 Inv-loop μ-loop
@@ -154,6 +167,7 @@ ask-shares-spec =
     (tie.spec
     Inv-loop
     μ-loop
+    shl-words
     loop-holds
     take-requires
     value-requires
