@@ -1,5 +1,5 @@
 -- A cube added word by word.
-use Prim.Native.Nat.{ℕ, zero, suc, _+_, _*_, _/_, _%_, _^_, _≤_, _<_, min, max}
+use Prim.Native.Nat.{ℕ, zero, suc, _+_, _*_, _^_, _<_, max}
 use native.Mathlib.Decide.{ℕ-discrete}
 use native.Mathlib.Omega.{arith}
 use mathlib.Core.Path.{_≡_, refl, sym, ap, ap₂, _∙_}
@@ -12,14 +12,14 @@ use lib.Count.{trailingZeros}
 use lib.Dec.{eqb}
 use lib.ListN.{length, getD, set}
 use lib.Seq.{getD-set-same, getD-set-other}
-use Rattle.fields.proofs.Bounded.{and-right}
 use Rattle.diagram.specs.Diagram.{bit}
 use Rattle.bits.specs.Inner.Bits.{bitOf}
 use Rattle.bits.proofs.Bits.{bit-zero, bit-and, bit-or, bit-either}
 use Rattle.bits.proofs.Trailing.{trailing-set}
 use Rattle.rulesheet.specs.Rules.{hasOutput}
-use Rattle.coverage.specs.declared.cube.Cube.{Cube}
-use Rattle.coverage.specs.Inner.Cubes.{isIn, Marked, Gains, Put, Meets, PutIf, Added, AddedIf}
+use Rattle.cubes.specs.declared.Cube.{Cube}
+use Rattle.cubes.specs.Inner.Cubes.{isIn}
+use Rattle.coverage.specs.Inner.Gathering.{Marked, Gains, Put, Meets, PutIf, Added, AddedIf}
 use Rattle.coverage.proofs.Marks.{words-apart}
 
 -- Bits that stay, and bits of a word with a pattern.

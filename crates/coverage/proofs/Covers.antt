@@ -17,7 +17,7 @@ use Rattle.canonical.specs.Inner.Blocks.{inputAt}
 use Rattle.rulesheet.specs.Rules.{RuleSheet}
 use Rattle.coverage.specs.declared.cover.Gaps.the-variants.{Covered, Open}
 use Rattle.coverage.specs.Coverage.{fitsRule, gapsOf}
-use Rattle.coverage.specs.Inner.Cubes.{Gathered, isFull, gapsBy}
+use Rattle.coverage.specs.Inner.Gathering.{Gathered, isFull, gapsBy}
 use Rattle.coverage.proofs.Inputs.{place-of, any-fits-same}
 
 pub both-ways : (a b : Bool) → (a ≡ true → b ≡ true) → (b ≡ true → a ≡ true) → a ≡ b

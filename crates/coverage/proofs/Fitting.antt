@@ -6,11 +6,10 @@ use native.Mathlib.Omega.{arith}
 use mathlib.Core.Path.{_≡_, refl, sym, ap, ap₂, _∙_}
 use mathlib.Core.Bool.{Bool, true, false, _&&_, cond}
 use mathlib.Core.Logic.{_⊎_, inl, inr, by-cases}
-use borrow.Author.Tests.{eqb-true}
 use lib.Dec.{eqb}
 use lib.Pow.{mod-pow-add}
 use Rattle.fields.specs.Bounded.{all, any}
-use Rattle.fields.proofs.Bounded.{and-left, and-right, all-at, all-not, all-found, any-at, any-not, any-found, none-at}
+use Rattle.fields.proofs.Bounded.{and-left, and-right, all-at, all-found, any-at, any-not, any-found, none-at}
 use Rattle.diagram.specs.Diagram.{Input, bit, inputOf, wordOf}
 use Rattle.diagram.proofs.Inputs.{inputNumber}
 use Rattle.rulesheet.specs.Rules.{RuleSheet, hasOutput}
@@ -18,7 +17,7 @@ use Rattle.coverage.specs.declared.cover.Shares.the-variants.{Apart, Sha
 use Rattle.coverage.specs.declared.cover.Gaps.the-variants.{Covered, Open}
 use Rattle.coverage.specs.Coverage.{fitsRule, wordOfRule, fitsTwo, sharesOf, gapsOf, hasRule, ruledAt}
 use Rattle.coverage.specs.Promises.{SharedInput, UnruledInput, OnlyRule}
-use Rattle.coverage.proofs.Inputs.{two-same, any-fits-same, fits-same}
+use Rattle.coverage.proofs.Inputs.{two-same, any-fits-same}
 use Rattle.coverage.proofs.Covers.{both-ways}
 
 module _ (s : RuleSheet) where

@@ -13,11 +13,12 @@ use Rattle.bits.specs.Inner.Bits.{bitOf}
 use Rattle.bits.proofs.Bits.{bit-zero}
 use Rattle.canonical.specs.Inner.Blocks.{inputAt}
 use Rattle.rulesheet.specs.Rules.{RuleSheet, hasOutput}
-use Rattle.coverage.specs.declared.cube.Cube.{Cube}
+use Rattle.cubes.specs.declared.Cube.{Cube}
 use Rattle.coverage.specs.declared.cover.Shares.the-variants.{Apart, Shared}
 use Rattle.coverage.specs.Coverage.{fitsRule, wordOfRule, fitsTwo, sharesOf, hasRule}
-use Rattle.coverage.specs.Inner.Cubes.{isIn, CubeOf, Added, Meets, Gathered}
-use Rattle.coverage.proofs.Inputs.{Place, place-of, two-same}
+use Rattle.cubes.specs.Inner.Cubes.{CubeOf}
+use Rattle.coverage.specs.Inner.Gathering.{Added, Meets, Gathered}
+use Rattle.coverage.proofs.Inputs.{place-of, two-same}
 
 bit-false : (b : Bool) → bit b ≡ 0 → b ≡ false
 bit-false true e = absurd (omega arith)

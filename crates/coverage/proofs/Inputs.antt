@@ -2,9 +2,8 @@
 -- of the words.
 use Prim.Native.Nat.{ℕ, suc, _+_, _*_, _-_, _/_, _%_, _^_, _<_}
 use native.Mathlib.Omega.{arith}
-use mathlib.Core.Path.{_≡_, sym, ap, ap₂, _∙_}
+use mathlib.Core.Path.{_≡_, ap, ap₂, _∙_}
 use mathlib.Core.Bool.{Bool, true, false, _&&_}
-use mathlib.Core.List.{List}
 use lib.ListN.{getD}
 use Rattle.fields.specs.Bounded.{any}
 use Rattle.fields.proofs.Bounded.{all-agree, any-agree}
@@ -13,7 +12,7 @@ use Rattle.diagram.proofs.Inputs.{inputNumber}
 use Rattle.functions.proofs.Trees.{Values}
 use Rattle.canonical.specs.Inner.Blocks.{inputAt}
 use Rattle.rows.proofs.Rows.{words-enough}
-use Rattle.rulesheet.specs.Rules.{RuleSheet, accepts, fits, hasOutput}
+use Rattle.rulesheet.specs.Rules.{RuleSheet, accepts, hasOutput}
 use Rattle.coverage.specs.Coverage.{fitsRule, wordOfRule, fitsTwo, hasRule, ruledAt}
 
 -- Two inputs with the same values of the first n contacts.

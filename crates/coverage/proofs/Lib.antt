@@ -1,6 +1,5 @@
 pub mod Applied
 pub mod Inputs
-pub mod Cubes
 pub mod Marks
 pub mod Adds
 pub mod Gathers

@@ -19,7 +19,7 @@ use Rattle.coverage.specs.declared.cover.Shares.the-variants.{Apart}
 use Rattle.coverage.specs.declared.cover.Gaps.the-variants.{Covered}
 use Rattle.coverage.specs.Coverage.{sharesOf, gapsOf, ruledAt}
 use Rattle.coverage.specs.Service.{fromRulesOf}
-use Rattle.coverage.specs.Inner.Cubes.{Lies, Gathered, gapsBy}
+use Rattle.coverage.specs.Inner.Gathering.{Lies, Gathered, gapsBy}
 use Rattle.coverage.specs.Promises.{WellFormed}
 use Rattle.coverage.proofs.Inputs.{ruled-values}
 use Rattle.coverage.proofs.Covers.{gaps-are}

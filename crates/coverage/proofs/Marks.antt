@@ -12,7 +12,7 @@ use lib.Bits.{bitOr}
 use lib.ListN.{length, getD, set}
 use lib.Seq.{getD-set-same, getD-set-other}
 use Rattle.rulesheet.specs.Rules.{hasOutput}
-use Rattle.coverage.specs.Inner.Cubes.{Marked}
+use Rattle.coverage.specs.Inner.Gathering.{Marked}
 
 -- A word of a truth table has room, and the one of the next table stands so many words further on.
 pub word-room : (words m w j room : ℕ) → j < m → w < words → m * words ≤ room → j * words + w < room

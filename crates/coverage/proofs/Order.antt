@@ -19,14 +19,11 @@ use Rattle.diagram.specs.Diagram.{Input, bit, inputOf}
 use Rattle.table.specs.Encode.{bytesOf}
 use Rattle.functions.specs.Functions.{functionsOf, canonical}
 use Rattle.canonical.specs.Service.{laidOf, laidNumber}
-use Rattle.rulesheet.specs.declared.form.Form.{Form}
 use Rattle.rulesheet.specs.declared.form.Form.the-variants.{Formed, Unformed}
-use Rattle.rulesheet.specs.Rules.{RuleSheet, ruleSheetOf, ruleFields, fits, ruleWord, hasOutput, isOutputs, isRule, areRules, outputsOf, formOf, formNumber}
-use Rattle.coverage.specs.declared.cover.Shares.{Shares}
+use Rattle.rulesheet.specs.Rules.{RuleSheet, ruleSheetOf, ruleFields, fits, ruleWord, hasOutput, isOutputs, isRule, areRules, formOf, formNumber}
 use Rattle.coverage.specs.declared.cover.Shares.the-variants.{Apart, Shared}
-use Rattle.coverage.specs.declared.cover.Gaps.{Gaps}
 use Rattle.coverage.specs.declared.cover.Gaps.the-variants.{Covered, Open}
-use Rattle.coverage.specs.Coverage.{fitsRule, fitsTwo, sharesOf, sharesNumber, gapsOf, gapsNumber, hasRule, ruledAt}
+use Rattle.coverage.specs.Coverage.{fitsRule, fitsTwo, sharesOf, sharesNumber, gapsOf, gapsNumber, ruledAt}
 use Rattle.coverage.specs.Service.{rulesRefusal, fromRulesOf}
 use Rattle.coverage.specs.Promises.{Rearranged, OrderOfRules}
 use Rattle.coverage.proofs.Covers.{both-ways}

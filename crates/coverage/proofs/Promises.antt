@@ -1,5 +1,5 @@
 -- The promises about the table of a rule sheet. That the order of the rules does not matter is in Order.
-use Prim.Native.Nat.{ℕ, _%_, _^_, _<_}
+use Prim.Native.Nat.{ℕ, _<_}
 use native.Mathlib.Nat.{mod-eq-of-lt}
 use native.Mathlib.Omega.{arith}
 use mathlib.Core.Path.{_≡_, sym, ap, _∙_}
@@ -9,7 +9,7 @@ use mathlib.Core.List.{List}
 use Rattle.fields.specs.Bounded.{any}
 use Rattle.fields.specs.Fields.{fieldsOf}
 use Rattle.fields.proofs.Refusals.{first-yes}
-use Rattle.diagram.specs.Diagram.{Input, bit, wordOf, wordAt}
+use Rattle.diagram.specs.Diagram.{Input, bit, wordAt}
 use Rattle.diagram.proofs.Words.{word-same}
 use Rattle.table.specs.Table.{diagramIn}
 use Rattle.functions.specs.Functions.{isNarrow}
@@ -18,7 +18,7 @@ use Rattle.functions.proofs.Trees.{Values}
 use Rattle.functions.proofs.Wide.{wide, not-narrow}
 use Rattle.canonical.proofs.Outcomes.{narrowNumber, laid-number, narrow-if, wide-if, tabling-agrees}
 use Rattle.rulesheet.specs.Rules.{RuleSheet, ruleSheetIn, hasOutput}
-use Rattle.rulesheet.proofs.Formed.{Limited, limited}
+use Rattle.rulesheet.proofs.Formed.{limited}
 use Rattle.coverage.specs.declared.cover.Shares.the-variants.{Apart}
 use Rattle.coverage.specs.declared.cover.Gaps.the-variants.{Covered}
 use Rattle.coverage.specs.Coverage.{fitsRule, wordOfRule, sharesOf, gapsOf, ruledAt}

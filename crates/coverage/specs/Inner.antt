@@ -1,1 +1,1 @@
-pub mod Cubes
+pub mod Gathering

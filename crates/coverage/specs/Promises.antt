@@ -1,10 +1,9 @@
 -- What from-rules promises: the one table of a sheet whose rules share no input and leave none out.
-use Prim.Native.Nat.{ℕ, _+_, _<_}
+use Prim.Native.Nat.{ℕ, _<_}
 use mathlib.Core.Path.{_≡_}
 use mathlib.Core.Bool.{true, false}
 use mathlib.Core.List.{List}
 use lib.ListN.{length}
-use Rattle.fields.specs.declared.Framing.the-variants.{Whole}
 use Rattle.fields.specs.Fields.{Item, fieldsOf, itemIn}
 use Rattle.diagram.specs.Diagram.{Input, wordAt}
 use Rattle.table.specs.Promises.{Accepted}

@@ -1,15 +1,14 @@
 // Which inputs fit a rule, and the outputs' truth tables, rule by rule: questions 19 and 20.
-use crate::cube;
-use crate::cube::Cube;
+use cubes::Cube;
 ghost use mathlib.Core.Path.{_≡_};
 ghost use mathlib.Core.Bool.{cond};
-ghost use Prim.Native.Nat.{_*_, _-_, _^_, _≤_, _<_};
+ghost use Prim.Native.Nat.{_*_, _-_, _≤_, _<_};
 ghost use lib.Bits.{bitOr};
 ghost use lib.ListN.{length, getD, set};
 ghost use Rattle.rulesheet.specs.Rules.{ruleSheetIn, hasOutput};
 ghost use Rattle.coverage.specs.declared.cover.Shares.the-variants.{Apart};
 ghost use Rattle.coverage.specs.Coverage.{sharesOf};
-ghost use Rattle.coverage.specs.Inner.Cubes.{Marked, PutIf, AddedIf, Lies, Gathered, Empty, gapsBy};
+ghost use Rattle.coverage.specs.Inner.Gathering.{Marked, PutIf, AddedIf, Lies, Gathered, Empty, gapsBy};
 
 // Question 19's answer.
 pub enum Shares {
@@ -112,7 +111,7 @@ pub fn ask_shares(
     for _ in 0..count {
         let taken = files::take(file, place);
         let rule = fields::value(file, taken.field);
-        let cube = cube::cube_of(rule, n, fixed);
+        let cube = cubes::cube_of(rule, n, fixed);
         if add_cube(cube, rule[n], words, m, ruled, truths) {
             return Shares::Shared;
         }

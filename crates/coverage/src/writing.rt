@@ -6,7 +6,7 @@ use files::Written;
 ghost use mathlib.Core.Path.{_≡_};
 ghost use Prim.Native.Nat.{ℕ, _*_, _-_, _^_, _≤_};
 ghost use lib.ListN.{length, getD};
-ghost use Rattle.coverage.specs.Inner.Cubes.{Lies};
+ghost use Rattle.coverage.specs.Inner.Gathering.{Lies};
 ghost use Rattle.coverage.specs.Service.{fromRulesOf};
 
 // Asks questions 19 and 20, then writes the table, given empty room for the outputs' truth tables.

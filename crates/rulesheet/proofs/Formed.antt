@@ -13,7 +13,6 @@ use Rattle.fields.specs.Refusals.{framingNumber, between}
 use Rattle.fields.proofs.Bounded.{all-at, and-left, and-right}
 use Rattle.files.specs.Header.{contactsIn, contactsNumber, contactsOf}
 use Rattle.files.proofs.Heads.{counts}
-use Rattle.rulesheet.specs.declared.form.Form.{Form}
 use Rattle.rulesheet.specs.declared.form.Form.the-variants.{Formed, Unformed}
 use Rattle.rulesheet.specs.Rules.{RuleSheet, ruleSheetOf, ruleFields, ruleWord, isOutputs, isRule, areRules, formOf, formNumber}
 

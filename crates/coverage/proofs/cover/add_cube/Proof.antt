@@ -5,7 +5,7 @@ use Prim.Native.Nat.{ℕ, _-_, _≤_}
 use mathlib.Core.Path.{_≡_, refl, _∙_}
 use mathlib.Core.List.{List}
 use lib.ListN.{length}
-use Rattle.coverage.specs.Inner.Cubes.{Added}
+use Rattle.coverage.specs.Inner.Gathering.{Added}
 use Rattle.coverage.proofs.Adds.{added-none, added-one, meets-before, was-there, was-put}
 use Rattle.coverage.proofs.cover.add_cube.Statement.{statement}
 use Rattle.coverage.proofs.cover.add_cube.Tie as tie

@@ -9,7 +9,7 @@ use Rattle.fields.specs.Bounded.{all}
 use Rattle.fields.proofs.Bounded.{all-none, all-more}
 use Rattle.diagram.proofs.Loops.{all-end, all-broken}
 use Rattle.coverage.specs.declared.cover.Gaps.the-variants.{Covered, Open}
-use Rattle.coverage.specs.Inner.Cubes.{isFull}
+use Rattle.coverage.specs.Inner.Gathering.{isFull}
 use Rattle.coverage.proofs.Covers.{full-word, not-full}
 use Rattle.coverage.proofs.cover.ask_gaps.Statement.{statement}
 use Rattle.coverage.proofs.cover.ask_gaps.Tie as tie

@@ -2,7 +2,7 @@
 use borrow.Author.Needs.{needs}
 use native.Mathlib.Omega.{arith}
 use Prim.Native.Nat.{ℕ, _+_, _*_, _-_, _%_, _^_, _≤_, _<_}
-use mathlib.Core.Path.{_≡_, refl, sym, ap, _∙_}
+use mathlib.Core.Path.{_≡_, refl, ap, _∙_}
 use mathlib.Core.List.{List}
 use lib.ListN.{length}
 use Rattle.fields.specs.Fields.{fieldsFrom}
@@ -10,7 +10,7 @@ use Rattle.files.specs.Inner.Row.{behind}
 use Rattle.files.proofs.Taking.{walked-on}
 use Rattle.bits.proofs.Bits.{bits-of}
 use Rattle.rulesheet.specs.Rules.{RuleSheet, ruleSheetIn}
-use Rattle.coverage.specs.Inner.Cubes.{Gathered}
+use Rattle.coverage.specs.Inner.Gathering.{Gathered}
 use Rattle.coverage.proofs.Gathers.{gathered-none, gathered-next, shared-next, all-apart}
 use Rattle.coverage.proofs.Adds.{cube-met, cube-added}
 use Rattle.coverage.proofs.Lying.{lies-limited, lies-counts, rule-taken}

@@ -1,10 +1,10 @@
 -- `cover::mark` meets its contract. The loop's invariant: the outputs passed have the pattern, and the next one's word is at the place.
 use borrow.Author.Needs.{needs}
 use native.Mathlib.Omega.{arith}
-use Prim.Native.Nat.{ℕ, _+_, _*_, _-_, _≤_, _<_}
+use Prim.Native.Nat.{_+_, _*_, _-_, _≤_, _<_}
 use mathlib.Core.Path.{_≡_, refl, sym, _∙_, subst}
 use lib.ListN.{length}
-use Rattle.coverage.specs.Inner.Cubes.{Marked}
+use Rattle.coverage.specs.Inner.Gathering.{Marked}
 use Rattle.coverage.proofs.Marks.{word-room, words-room, next-word, marked-none, marked-one}
 use Rattle.coverage.proofs.cover.mark.Statement.{statement}
 use Rattle.coverage.proofs.cover.mark.Tie as tie

@@ -1,7 +1,7 @@
 -- `service::from_rules` meets its contract: refused by question 18, or what its rules give.
 use borrow.Author.Needs.{needs}
 use native.Mathlib.Omega.{arith}
-use mathlib.Core.Path.{_≡_, sym, _∙_}
+use mathlib.Core.Path.{sym, _∙_}
 use Rattle.coverage.proofs.Lying.{begins}
 use Rattle.coverage.proofs.Outcomes.{refused-form, refused-by}
 use Rattle.coverage.proofs.service.from_rules.Statement.{statement}

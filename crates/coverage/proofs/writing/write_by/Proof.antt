@@ -4,14 +4,12 @@ use native.Mathlib.Omega.{arith}
 use Prim.Native.Nat.{ℕ, _-_, _*_, _%_, _^_, _<_}
 use mathlib.Core.Path.{_≡_, sym, ap, _∙_}
 use mathlib.Core.List.{List}
-use lib.ListN.{length, getD}
 use Rattle.bits.proofs.Bits.{bits-of}
 use Rattle.rows.proofs.Rows.{words-few}
 use Rattle.rulesheet.specs.Rules.{ruleSheetIn}
-use Rattle.coverage.specs.declared.cover.Shares.the-variants.{Apart, Shared}
-use Rattle.coverage.specs.declared.cover.Gaps.{Gaps}
+use Rattle.coverage.specs.declared.cover.Shares.the-variants.{Apart}
 use Rattle.coverage.specs.Coverage.{sharesOf, gapsOf}
-use Rattle.coverage.specs.Inner.Cubes.{gapsBy}
+use Rattle.coverage.specs.Inner.Gathering.{gapsBy}
 use Rattle.coverage.proofs.Lying.{lies-well, lies-limited, lies-counts, gaps-asked, written, zero-at}
 use Rattle.coverage.proofs.Outcomes.{refused-shared, refused-open, refused-by}
 use Rattle.coverage.proofs.writing.write_by.Statement.{statement}

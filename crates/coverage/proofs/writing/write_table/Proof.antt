@@ -2,7 +2,7 @@
 use borrow.Author.Needs.{needs}
 use native.Mathlib.Omega.{arith}
 use Prim.Native.Nat.{_-_, _*_, _%_, _^_, _≤_}
-use mathlib.Core.Path.{_≡_, ap, _∙_}
+use mathlib.Core.Path.{_≡_}
 use Rattle.rows.proofs.Rows.{row-place}
 use Rattle.coverage.proofs.Lying.{lies-limited, lies-counts, zero-at}
 use Rattle.coverage.proofs.writing.write_table.Statement.{statement}

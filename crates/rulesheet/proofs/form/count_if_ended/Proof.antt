@@ -1,8 +1,7 @@
 -- `form::count_if_ended` meets its contract.
 use borrow.Author.Needs.{needs}
-use Prim.Native.Nat.{ℕ}
-use mathlib.Core.Path.{_≡_, sym, ap, _∙_}
-use mathlib.Core.Bool.{Bool, true, false, cond}
+use mathlib.Core.Path.{sym, ap, _∙_}
+use mathlib.Core.Bool.{Bool, cond}
 use Rattle.rulesheet.proofs.form.count_if_ended.Statement.{statement}
 use Rattle.rulesheet.proofs.form.count_if_ended.Tie as tie
 

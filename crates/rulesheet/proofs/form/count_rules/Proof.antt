@@ -1,14 +1,14 @@
 -- `form::count_rules` meets its contract. The loop's invariant: the fields passed are rules, and the others follow at the place.
 use borrow.Author.Needs.{needs}
 use native.Mathlib.Omega.{arith}
-use Prim.Native.Nat.{ℕ, _+_, _-_, _≤_, _<_}
+use Prim.Native.Nat.{ℕ, _+_, _-_, _≤_}
 use mathlib.Core.Path.{_≡_, refl, sym, ap, _∙_}
-use mathlib.Core.Bool.{true, false, cond}
+use mathlib.Core.Bool.{true, cond}
 use mathlib.Core.Logic.{inl, inr}
 use borrow.Author.Tests.{not-true, not-false, leb-true, leb-false}
 use lib.ListN.{length}
 use Rattle.fields.specs.Bounded.{all}
-use Rattle.fields.specs.Fields.{Item, fieldsFrom, itemIn}
+use Rattle.fields.specs.Fields.{fieldsFrom, itemIn}
 use Rattle.fields.proofs.Bounded.{all-none, all-more}
 use Rattle.files.specs.Inner.Row.{endsWithin, behind}
 use Rattle.files.proofs.Taking.{field-taken, walked-on, found-more}

@@ -1,13 +1,13 @@
--- `cube::words_of` meets its contract. The loop's invariant: the mask and the value are those of the contacts passed.
+-- `words_of` meets its contract. The loop's invariant: the mask and the value are those of the contacts passed.
 use borrow.Author.Needs.{needs}
 use native.Mathlib.Omega.{arith}
 use Prim.Native.Nat.{ℕ, _-_, _^_, _≤_}
 use mathlib.Core.Path.{_≡_}
 use lib.Pow.{pow-mono}
-use Rattle.coverage.specs.Inner.Cubes.{High}
-use Rattle.coverage.proofs.Cubes.{high-none, high-more}
-use Rattle.coverage.proofs.cube.words_of.Statement.{statement}
-use Rattle.coverage.proofs.cube.words_of.Tie as tie
+use Rattle.cubes.specs.Inner.Cubes.{High}
+use Rattle.cubes.proofs.Cubes.{high-none, high-more}
+use Rattle.cubes.proofs.words_of.Statement.{statement}
+use Rattle.cubes.proofs.words_of.Tie as tie
 
 abbrev Inv-loop : tie.InvT-loop
 Inv-loop rule fixed words₀ i₀ words i = (i ≤ fixed) × High fixed i rule (words .mask) (words .value)

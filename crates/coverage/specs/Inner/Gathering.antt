@@ -1,53 +1,24 @@
--- The inputs that fit a rule, 64 to a word: within a word the last six contacts vary, and those before them are fixed.
-use Prim.Native.Nat.{ℕ, zero, suc, _+_, _*_, _-_, _/_, _^_, _≤_, _<_}
+-- The inputs that fit the rules of a sheet, and the outputs' truth tables, 64 to a word, as they are put together rule by rule.
+use Prim.Native.Nat.{ℕ, _+_, _*_, _-_, _^_, _≤_, _<_}
 use mathlib.Core.Path.{_≡_}
 use mathlib.Core.Bool.{Bool, true, false, _&&_, _||_, cond}
 use mathlib.Core.List.{List}
-use lib.Bits.{bitAnd, bitOr}
+use lib.Bits.{bitOr}
 use lib.Dec.{eqb}
 use lib.ListN.{length, getD}
 use Rattle.fields.specs.Bounded.{all, any}
 use Rattle.fields.specs.Fields.{fieldsFrom, fieldsOf}
 use Rattle.files.specs.Inner.Row.{behind}
-use Rattle.diagram.specs.Diagram.{bit, inputOf}
+use Rattle.diagram.specs.Diagram.{bit}
 use Rattle.bits.specs.Inner.Bits.{bitOf}
 use Rattle.canonical.specs.Inner.Blocks.{inputAt}
+use Rattle.cubes.specs.declared.Cube.{Cube}
+use Rattle.cubes.specs.Inner.Cubes.{isIn}
 use Rattle.rulesheet.specs.declared.form.Form.the-variants.{Formed}
-use Rattle.rulesheet.specs.Rules.{RuleSheet, ruleSheetIn, accepts, fits, hasOutput, formOf}
-use Rattle.coverage.specs.declared.cube.Cube.{Cube}
+use Rattle.rulesheet.specs.Rules.{RuleSheet, hasOutput, formOf}
 use Rattle.coverage.specs.declared.cover.Gaps.{Gaps}
 use Rattle.coverage.specs.declared.cover.Gaps.the-variants.{Covered, Open}
 use Rattle.coverage.specs.Coverage.{fitsRule, fitsTwo, hasRule}
-
--- A word that is 1 where the last contacts fit a rule: those from `fixed` on, so many.
-pub record Low (n fixed count : ℕ) (rule : List ℕ) (pattern : ℕ) : Type 0 where
-  pub bits : (k : ℕ) → k < 64 →
-      bitOf k pattern ≡ bit (all count (λ i. accepts (getD rule (fixed + i) 0) (inputOf k (n - suc (fixed + i)))))
-
--- The digits of the mask and of the value that a rule's byte gives.
-abbrev pub maskDigit : ℕ → ℕ
-maskDigit zero = 1
-maskDigit (suc zero) = 1
-maskDigit (suc (suc c)) = 0
-
-abbrev pub valueDigit : ℕ → ℕ
-valueDigit zero = 0
-valueDigit (suc zero) = 1
-valueDigit (suc (suc c)) = 0
-
--- A mask and a value that the number of a word has there, if the first contacts fit a rule, so many of the fixed ones.
-pub record High (fixed count : ℕ) (rule : List ℕ) (mask value : ℕ) : Type 0 where
-  pub small : (mask < 2 ^ count) × (value < 2 ^ count)
-  pub fit : (w : ℕ) →
-      eqb (bitAnd (w / 2 ^ (fixed - count)) mask) value ≡ all count (λ i. accepts (getD rule i 0) (inputOf w (fixed - suc i)))
-
--- Whether the input at bit k of word w is in a cube.
-abbrev pub isIn : Cube → ℕ → ℕ → Bool
-isIn c w k = eqb (bitAnd w (c .mask)) (c .value) && eqb (bitOf k (c .pattern)) 1
-
--- The cube of a rule: the inputs that fit it.
-pub record CubeOf (n : ℕ) (rule : List ℕ) (c : Cube) : Type 0 where
-  pub fit : (w k : ℕ) → k < 64 → isIn c w k ≡ fits n rule (inputAt n (64 * w + k))
 
 -- A pattern put into word w of the truth tables that a permit word has, of the first outputs, so many; the rest stays.
 pub record Marked (words count w word pattern : ℕ) (before after : List ℕ) : Type 0 where

@@ -1,14 +1,13 @@
--- `cube::pattern_of` meets its contract. The loop's invariant: the inputs fit the rule by the contacts passed.
+-- `pattern_of` meets its contract. The loop's invariant: the inputs fit the rule by the contacts passed.
 use borrow.Author.Needs.{needs}
 use native.Mathlib.Omega.{arith}
-use Prim.Native.Nat.{ℕ, suc, _+_, _-_, _≤_, _<_}
+use Prim.Native.Nat.{ℕ, _-_, _≤_}
 use mathlib.Core.Path.{_≡_, refl, ap₂, _∙_}
 use Rattle.diagram.specs.Diagram.{bit, inputOf}
-use Rattle.bits.specs.Inner.Bits.{bitOf}
-use Rattle.coverage.specs.Inner.Cubes.{Low}
-use Rattle.coverage.proofs.Cubes.{low-none, low-more}
-use Rattle.coverage.proofs.cube.pattern_of.Statement.{statement}
-use Rattle.coverage.proofs.cube.pattern_of.Tie as tie
+use Rattle.cubes.specs.Inner.Cubes.{Low}
+use Rattle.cubes.proofs.Cubes.{low-none, low-more}
+use Rattle.cubes.proofs.pattern_of.Statement.{statement}
+use Rattle.cubes.proofs.pattern_of.Tie as tie
 
 abbrev Inv-loop : tie.InvT-loop
 Inv-loop rule n fixed pattern₀ i₀ i-end pattern i = (i-end ≡ n - fixed) × (i ≤ i-end) × Low n fixed i rule pattern

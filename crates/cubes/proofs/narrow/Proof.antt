@@ -1,11 +1,10 @@
--- `cube::narrow` meets its contract: bit by bit.
-use borrow.Author.Needs.{needs}
-use mathlib.Core.Path.{_≡_, sym, ap, _∙_}
+-- `narrow` meets its contract: bit by bit.
+use mathlib.Core.Path.{sym, ap, _∙_}
 use mathlib.Core.Bool.{Bool, _&&_, and-true}
 use Rattle.diagram.specs.Diagram.{bit}
-use Rattle.coverage.proofs.Cubes.{accepts-open, accepts-closed, accepts-either, narrowed-open, narrowed-closed}
-use Rattle.coverage.proofs.cube.narrow.Statement.{statement}
-use Rattle.coverage.proofs.cube.narrow.Tie as tie
+use Rattle.cubes.proofs.Cubes.{accepts-open, accepts-closed, accepts-either, narrowed-open, narrowed-closed}
+use Rattle.cubes.proofs.narrow.Statement.{statement}
+use Rattle.cubes.proofs.narrow.Tie as tie
 
 returns : tie.Need-returns
 returns c = λ k a b h ea eb. narrowed-open k _ _ a b h ea eb ∙ ap (λ (t : Bool). bit (a && t)) (sym (accepts-open b _ (c .if1 .taken)))

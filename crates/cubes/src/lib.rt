@@ -6,7 +6,7 @@ ghost use lib.ListN.{length};
 ghost use Rattle.diagram.specs.Diagram.{bit};
 ghost use Rattle.bits.specs.Inner.Bits.{bitOf};
 ghost use Rattle.rulesheet.specs.Rules.{accepts};
-ghost use Rattle.coverage.specs.Inner.Cubes.{Low, maskDigit, valueDigit, High, CubeOf};
+ghost use Rattle.cubes.specs.Inner.Cubes.{Low, maskDigit, valueDigit, High, CubeOf};
 
 // The inputs at the bits of `pattern`, in each word whose number has `value` where `mask` is set.
 pub struct Cube {

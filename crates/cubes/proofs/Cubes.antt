@@ -1,5 +1,5 @@
 -- The cube of a rule: the last contacts by the bits of a word, the others by the number of the word.
-use Prim.Native.Nat.{ℕ, zero, suc, _+_, _*_, _-_, _/_, _%_, _^_, _≤_, _<_, min}
+use Prim.Native.Nat.{ℕ, zero, suc, _+_, _*_, _-_, _/_, _%_, _^_, _<_, min}
 use native.Mathlib.Nat.{div-one}
 use native.Mathlib.Omega.{arith}
 use mathlib.Core.Path.{_≡_, refl, sym, ap, ap₂, _∙_}
@@ -17,9 +17,8 @@ use Rattle.bits.specs.Inner.Bits.{bitOf}
 use Rattle.bits.proofs.Bits.{ones, bit-ones, bit-and, bit-flip, bit-both}
 use Rattle.bits.proofs.Rails.{low-same}
 use Rattle.canonical.specs.Inner.Blocks.{inputAt}
-use Rattle.rulesheet.specs.Rules.{accepts, fits}
-use Rattle.coverage.specs.declared.cube.Cube.{Cube}
-use Rattle.coverage.specs.Inner.Cubes.{Low, maskDigit, valueDigit, High, isIn, CubeOf}
+use Rattle.rulesheet.specs.Rules.{accepts}
+use Rattle.cubes.specs.Inner.Cubes.{Low, maskDigit, valueDigit, High, CubeOf}
 
 -- What a byte of a rule accepts.
 module _ (b : Bool) (c : ℕ) where

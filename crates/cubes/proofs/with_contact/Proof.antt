@@ -1,11 +1,11 @@
--- `cube::with_contact` meets its contract, by the byte.
+-- `with_contact` meets its contract, by the byte.
 use borrow.Author.Needs.{needs}
 use native.Mathlib.Omega.{arith}
 use Prim.Native.Nat.{ℕ, zero, suc}
 use mathlib.Core.Path.{_≡_, refl, ap}
-use Rattle.coverage.specs.Inner.Cubes.{maskDigit, valueDigit}
-use Rattle.coverage.proofs.cube.with_contact.Statement.{statement}
-use Rattle.coverage.proofs.cube.with_contact.Tie as tie
+use Rattle.cubes.specs.Inner.Cubes.{maskDigit, valueDigit}
+use Rattle.cubes.proofs.with_contact.Statement.{statement}
+use Rattle.cubes.proofs.with_contact.Tie as tie
 
 either : (c : ℕ) → (c ≡ 0 → ⊥) → (c ≡ 1 → ⊥) → (maskDigit c ≡ 0) × (valueDigit c ≡ 0)
 either zero h g = absurd (h refl)

@@ -1,8 +1,8 @@
--- `cube::cube_of` meets its contract.
+-- `cube_of` meets its contract.
 use borrow.Author.Needs.{needs}
-use Rattle.coverage.proofs.Cubes.{cube-of}
-use Rattle.coverage.proofs.cube.cube_of.Statement.{statement}
-use Rattle.coverage.proofs.cube.cube_of.Tie as tie
+use Rattle.cubes.proofs.Cubes.{cube-of}
+use Rattle.cubes.proofs.cube_of.Statement.{statement}
+use Rattle.cubes.proofs.cube_of.Tie as tie
 
 words-of-requires : tie.Need-words-of-requires
 words-of-requires c κs = search needs
