@@ -10,17 +10,20 @@
 
 /* ---- The work of one call. ---- */
 
+/* A service that writes to one buffer. */
+typedef pilgodur_built writer(const uint8_t *, size_t, uint8_t *, size_t);
+
 static const struct {
     pilgodur_checked (*check)(const uint8_t *, size_t);
-    pilgodur_built (*build)(const uint8_t *, size_t, uint8_t *, size_t);
-    pilgodur_built (*build_with_lamp)(const uint8_t *, size_t, uint8_t *, size_t);
+    writer *build;
+    writer *build_with_lamp;
     pilgodur_reading (*read_off)(const uint8_t *, size_t, uint32_t);
     uint32_t (*run)(const uint8_t *, size_t, const uint8_t *, size_t, const uint8_t *, size_t, uint8_t *, size_t, uint8_t *,
                     size_t);
     pilgodur_probed (*probe)(const uint8_t *, size_t, const uint8_t *, size_t, uint8_t *, size_t);
-    pilgodur_built (*sheet)(const uint8_t *, size_t, uint8_t *, size_t);
-    pilgodur_built (*from_drawing)(const uint8_t *, size_t, uint8_t *, size_t);
-    pilgodur_built (*from_rules)(const uint8_t *, size_t, uint8_t *, size_t);
+    writer *sheet;
+    writer *from_drawing;
+    writer *from_rules;
 } services[SIDES] = {
     [PLAIN] = {plain_check, plain_build, plain_build_with_lamp, plain_read_off, plain_run, plain_probe, plain_sheet,
                plain_from_drawing, plain_from_rules},
@@ -29,6 +32,12 @@ static const struct {
     [LIBRARY] = {pilgodur_check, pilgodur_build, pilgodur_build_with_lamp, pilgodur_read_off, pilgodur_run, pilgodur_probe,
                  pilgodur_sheet, pilgodur_from_drawing, pilgodur_from_rules},
 };
+
+static uint64_t write_by(writer *service, enum side side, const uint8_t *file, size_t length)
+{
+    pilgodur_built r = service(file, length, written[side], BUFFER);
+    return r.refusal + 100 * (uint64_t)r.length;
+}
 
 static uint64_t check(enum side side, const uint8_t *table, size_t length)
 {
@@ -48,14 +57,12 @@ static uint64_t do_check_noted(enum side side, const struct job *j)
 
 static uint64_t do_build(enum side side, const struct job *j)
 {
-    pilgodur_built r = services[side].build(j->table, j->table_length, written[side], BUFFER);
-    return r.refusal + 100 * (uint64_t)r.length;
+    return write_by(services[side].build, side, j->table, j->table_length);
 }
 
 static uint64_t do_build_with_lamp(enum side side, const struct job *j)
 {
-    pilgodur_built r = services[side].build_with_lamp(j->table, j->table_length, written[side], BUFFER);
-    return r.refusal + 100 * (uint64_t)r.length;
+    return write_by(services[side].build_with_lamp, side, j->table, j->table_length);
 }
 
 static uint64_t do_read_off(enum side side, const struct job *j)
@@ -102,52 +109,34 @@ static uint64_t do_probe_lines(enum side side, const struct job *j)
     return sum;
 }
 
-static uint64_t sheet(enum side side, const uint8_t *netlist, size_t length)
-{
-    pilgodur_built r = services[side].sheet(netlist, length, written[side], BUFFER);
-    return r.refusal + 100 * (uint64_t)r.length;
-}
-
 static uint64_t do_sheet(enum side side, const struct job *j)
 {
-    return sheet(side, j->netlist, j->netlist_length);
+    return write_by(services[side].sheet, side, j->netlist, j->netlist_length);
 }
 
 static uint64_t do_sheet_noted(enum side side, const struct job *j)
 {
-    return sheet(side, j->noted, j->noted_length);
-}
-
-static uint64_t from_drawing(enum side side, const uint8_t *drawing, size_t length)
-{
-    pilgodur_built r = services[side].from_drawing(drawing, length, written[side], BUFFER);
-    return r.refusal + 100 * (uint64_t)r.length;
+    return write_by(services[side].sheet, side, j->noted, j->noted_length);
 }
 
 static uint64_t do_from_drawing(enum side side, const struct job *j)
 {
-    return from_drawing(side, j->drawing, j->drawing_length);
+    return write_by(services[side].from_drawing, side, j->drawing, j->drawing_length);
 }
 
 static uint64_t do_from_drawing_noted(enum side side, const struct job *j)
 {
-    return from_drawing(side, j->noted, j->noted_length);
-}
-
-static uint64_t from_rules(enum side side, const uint8_t *rules, size_t length)
-{
-    pilgodur_built r = services[side].from_rules(rules, length, written[side], BUFFER);
-    return r.refusal + 100 * (uint64_t)r.length;
+    return write_by(services[side].from_drawing, side, j->noted, j->noted_length);
 }
 
 static uint64_t do_from_rules(enum side side, const struct job *j)
 {
-    return from_rules(side, j->rules, j->rules_length);
+    return write_by(services[side].from_rules, side, j->rules, j->rules_length);
 }
 
 static uint64_t do_from_rules_noted(enum side side, const struct job *j)
 {
-    return from_rules(side, j->noted, j->noted_length);
+    return write_by(services[side].from_rules, side, j->noted, j->noted_length);
 }
 
 /* ---- The rows. ---- */

@@ -872,6 +872,15 @@ static uint8_t *put_level(const struct functions *f, struct mentions *m, unsigne
     return at;
 }
 
+/* A table that was made, if there is room for it: question 9. */
+static pilgodur_built hand_over(const uint8_t *made, size_t length, uint8_t *table, size_t table_len)
+{
+    if (table_len < length)
+        return (pilgodur_built){9, 0};
+    memcpy(table, made, length);
+    return (pilgodur_built){0, (uint32_t)length};
+}
+
 /* Writes the table of outputs that are these functions: question 17, then 9. */
 static pilgodur_built write_table(const struct functions *f, unsigned contacts, const uint8_t *output, unsigned outputs,
                                   uint8_t *table, size_t table_len)
@@ -886,11 +895,7 @@ static pilgodur_built write_table(const struct functions *f, unsigned contacts, 
         if (m.width > 8)
             return (pilgodur_built){17, 0};
     }
-    size_t length = (size_t)(at - made);
-    if (table_len < length)
-        return (pilgodur_built){9, 0};
-    memcpy(table, made, length);
-    return (pilgodur_built){0, (uint32_t)length};
+    return hand_over(made, (size_t)(at - made), table, table_len);
 }
 
 pilgodur_built tuned_from_drawing(const uint8_t *drawing, size_t drawing_len, uint8_t *table, size_t table_len)
@@ -1057,11 +1062,7 @@ static pilgodur_built write_truths(const struct rules *r, const uint64_t truth[8
         if (next->width > 8)
             return (pilgodur_built){17, 0};
     }
-    size_t length = (size_t)(at - made);
-    if (table_len < length)
-        return (pilgodur_built){9, 0};
-    memcpy(table, made, length);
-    return (pilgodur_built){0, (uint32_t)length};
+    return hand_over(made, (size_t)(at - made), table, table_len);
 }
 
 /* Whether two rules differ at no contact that both fix. */
