@@ -1,5 +1,5 @@
 -- A cube added word by word.
-use Prim.Native.Nat.{ℕ, zero, suc, _+_, _*_, _^_, _<_, max}
+use Prim.Native.Nat.{ℕ, _+_, _*_, _^_, _<_, max}
 use native.Mathlib.Decide.{ℕ-discrete}
 use native.Mathlib.Omega.{arith}
 use mathlib.Core.Path.{_≡_, refl, sym, ap, ap₂, _∙_}
@@ -20,20 +20,16 @@ use Rattle.rulesheet.specs.Rules.{hasOutput}
 use Rattle.cubes.specs.declared.Cube.{Cube}
 use Rattle.cubes.specs.Inner.Cubes.{isIn}
 use Rattle.coverage.specs.Inner.Gathering.{Marked, Gains, Put, Meets, PutIf, Added, AddedIf}
+use Rattle.coverage.proofs.Inputs.{bit-digit}
 use Rattle.coverage.proofs.Marks.{words-apart}
 
 -- Bits that stay, and bits of a word with a pattern.
 gains-none : (t : Bool) {a a' : ℕ} → t ≡ false → a' ≡ a → Gains t a a'
 gains-none t e q b h = q ∙ h ∙ ap bit (sym (or-false b) ∙ ap (_||_ b) (sym e))
 
-bit-test : (p : ℕ) → p < 2 → p ≡ bit (eqb p 1)
-bit-test zero h = refl
-bit-test (suc zero) h = refl
-bit-test (suc (suc p)) h = absurd (omega arith)
-
 gains-pattern : (k a pattern : ℕ) → Gains (eqb (bitOf k pattern) 1) (bitOf k a) (bitOf k (bitOr a pattern))
 gains-pattern k a pattern b h =
-    bit-or k a pattern ∙ ap₂ max h (bit-test (bitOf k pattern) (omega arith)) ∙ bit-either b (eqb (bitOf k pattern) 1)
+    bit-or k a pattern ∙ ap₂ max h (sym (bit-digit (bitOf k pattern) (omega arith))) ∙ bit-either b (eqb (bitOf k pattern) 1)
 
 gains-chosen : (t : Bool) (k a pattern : ℕ) → Gains (eqb (bitOf k pattern) 1 && t) (bitOf k a) (bitOf k (bitOr a (cond t pattern 0)))
 gains-chosen true k a pattern = rw (and-true (eqb (bitOf k pattern) 1)) (gains-pattern k a pattern)

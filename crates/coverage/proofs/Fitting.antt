@@ -6,7 +6,6 @@ use native.Mathlib.Omega.{arith}
 use mathlib.Core.Path.{_≡_, refl, sym, ap, ap₂, _∙_}
 use mathlib.Core.Bool.{Bool, true, false, _&&_, cond}
 use mathlib.Core.Logic.{_⊎_, inl, inr, by-cases}
-use lib.Dec.{eqb}
 use lib.Pow.{mod-pow-add}
 use Rattle.fields.specs.Bounded.{all, any}
 use Rattle.fields.proofs.Bounded.{and-left, and-right, all-at, all-found, any-at, any-not, any-found, none-at}
@@ -17,7 +16,7 @@ use Rattle.coverage.specs.declared.cover.Shares.the-variants.{Apart, Sha
 use Rattle.coverage.specs.declared.cover.Gaps.the-variants.{Covered, Open}
 use Rattle.coverage.specs.Coverage.{fitsRule, wordOfRule, fitsTwo, sharesOf, gapsOf, hasRule, ruledAt}
 use Rattle.coverage.specs.Promises.{SharedInput, UnruledInput, OnlyRule}
-use Rattle.coverage.proofs.Inputs.{two-same, any-fits-same}
+use Rattle.coverage.proofs.Inputs.{bit-digit, two-same, any-fits-same}
 use Rattle.coverage.proofs.Covers.{both-ways}
 
 module _ (s : RuleSheet) where
@@ -100,11 +99,6 @@ module _ (s : RuleSheet) where
       (λ e. any-at (hasRule s j x) (s .count) i below (ap₂ _&&_ fit e)))
 
 -- A word is made of its outputs.
-bit-digit : (d : ℕ) → d < 2 → bit (eqb d 1) ≡ d
-bit-digit zero h = refl
-bit-digit (suc zero) h = refl
-bit-digit (suc (suc d)) h = absurd (omega arith)
-
 pub word-back : (word m : ℕ) → wordOf (λ j. bit (hasOutput word j)) m ≡ word % 2 ^ m
 unfolding wordOf
 word-back word zero = omega arith

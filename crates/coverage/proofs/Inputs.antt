@@ -1,9 +1,10 @@
 -- Inputs and rules: a rule looks at the contacts below n alone, so every input is one of the numbered ones, and one of those at the bits
 -- of the words.
-use Prim.Native.Nat.{ℕ, suc, _+_, _*_, _-_, _/_, _%_, _^_, _<_}
+use Prim.Native.Nat.{ℕ, zero, suc, _+_, _*_, _-_, _/_, _%_, _^_, _<_}
 use native.Mathlib.Omega.{arith}
-use mathlib.Core.Path.{_≡_, ap, ap₂, _∙_}
+use mathlib.Core.Path.{_≡_, refl, ap, ap₂, _∙_}
 use mathlib.Core.Bool.{Bool, true, false, _&&_}
+use lib.Dec.{eqb}
 use lib.ListN.{getD}
 use Rattle.fields.specs.Bounded.{any}
 use Rattle.fields.proofs.Bounded.{all-agree, any-agree}
@@ -14,6 +15,12 @@ use Rattle.canonical.specs.Inner.Blocks.{inputAt}
 use Rattle.rows.proofs.Rows.{words-enough}
 use Rattle.rulesheet.specs.Rules.{RuleSheet, accepts, hasOutput}
 use Rattle.coverage.specs.Coverage.{fitsRule, wordOfRule, fitsTwo, hasRule, ruledAt}
+
+-- A bit by whether it is 1.
+pub bit-digit : (d : ℕ) → d < 2 → bit (eqb d 1) ≡ d
+bit-digit zero h = refl
+bit-digit (suc zero) h = refl
+bit-digit (suc (suc d)) h = absurd (omega arith)
 
 -- Two inputs with the same values of the first n contacts.
 abbrev pub Agree : ℕ → Input → Input → Type 0

@@ -20,7 +20,7 @@ returns-2 : tie.Need-returns-2
 returns-2 c =
     let start = c .before .before .before .before .before .before .before .before in
     meets (start .args .words) (start .args .m) (start .args .cube) (start .args .word) (start .args .w) (start .args .ruled .now) (start .args .truths .now)
-    (c .before .before .before .if1 .left) (omega (arith, c .before .before .slice-known3 .given (start .args .w))) (c .if2 .taken)
+    (c .before .before .before .if1 .left) (omega (arith, c .before .before .slice-known3 .given (start .args .w))) (λ z. omega (arith, z, c .if2 .taken))
 
 mul-ruled : tie.Need-mul-ruled
 mul-ruled c = search needs

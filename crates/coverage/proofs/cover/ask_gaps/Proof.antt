@@ -32,7 +32,7 @@ shared-slice-read-if1 c = search needs
 returns : tie.Need-returns Inv-loop μ-loop
 returns c =
     let turn = c .before .before in
-    ap (λ (b : Bool). cond b Covered Open) (all-broken _ _ _ (turn .loop-test .taken) (not-full _ (omega (arith, c .before .shared-slice-known .given (turn .before .loop .w))) (c .if1 .taken)))
+    ap (λ (b : Bool). cond b Covered Open) (all-broken _ _ _ (turn .loop-test .taken) (not-full _ (omega (arith, c .before .shared-slice-known .given (turn .before .loop .w))) (λ z. omega (arith, z, c .if1 .taken))))
 
 add-w : tie.Need-add-w Inv-loop μ-loop
 add-w c = search needs
