@@ -42,6 +42,12 @@ bit-and k a b = ap (λ (x : ℕ). x % 2) (and-shr a b k) ∙ and-odd (a / 2 ^ k)
 pub bit-or : (k a b : ℕ) → bitOf k (bitOr a b) ≡ max (bitOf k a) (bitOf k b)
 bit-or k a b = ap (λ (x : ℕ). x % 2) (or-shr a b k) ∙ or-odd (a / 2 ^ k) (b / 2 ^ k)
 
+-- A bit by whether it is 1.
+pub bit-digit : (d : ℕ) → d < 2 → bit (eqb d 1) ≡ d
+bit-digit zero h = refl
+bit-digit (suc zero) h = refl
+bit-digit (suc (suc d)) h = absurd (omega arith)
+
 -- Bits that differ make 1, so a bit and 1 make the other one.
 differs : (x y : ℕ) → x < 2 → y < 2 → differ x y ≡ bit (not (eqb x y))
 differs zero zero lx ly = refl
@@ -52,7 +58,7 @@ differs (suc zero) (suc zero) lx ly = refl
 differs (suc zero) (suc (suc y)) lx ly = absurd (omega arith)
 differs (suc (suc x)) y lx ly = absurd (omega arith)
 
-bit-lt : (b : Bool) → bit b < 2
+pub bit-lt : (b : Bool) → bit b < 2
 bit-lt true = omega arith
 bit-lt false = omega arith
 

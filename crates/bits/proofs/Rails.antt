@@ -11,6 +11,7 @@ use Rattle.fields.specs.Bounded.{all}
 use Rattle.fields.proofs.Bounded.{all-at}
 use Rattle.diagram.specs.Diagram.{bit, inputOf}
 use Rattle.bits.specs.Inner.Bits.{bitOf}
+use Rattle.bits.proofs.Bits.{bit-digit}
 
 abbrev pub patterns : List ℕ
 patterns =
@@ -34,12 +35,7 @@ bit-pattern c k lc lk =
 -- A contact's value at an input is a bit of the input's number.
 pub input-bit : (a i : ℕ) → bit (inputOf a i) ≡ bitOf i a
 unfolding inputOf
-input-bit a i = go (bitOf i a) (omega arith)
-  where
-    go : (x : ℕ) → x < 2 → bit (eqb x 1) ≡ x
-    go zero l = refl
-    go (suc zero) l = refl
-    go (suc (suc x)) l = absurd (omega arith)
+input-bit a i = bit-digit (bitOf i a) (omega arith)
 
 module _ (base k : ℕ) (whole : base % 64 ≡ 0) (l : k < 64) where
   low : (c : ℕ) → c < 6 → k / 2 ^ c % 2 ≡ (base + k) / 2 ^ c % 2

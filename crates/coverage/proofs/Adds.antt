@@ -14,13 +14,12 @@ use lib.ListN.{length, getD, set}
 use lib.Seq.{getD-set-same, getD-set-other}
 use Rattle.diagram.specs.Diagram.{bit}
 use Rattle.bits.specs.Inner.Bits.{bitOf}
-use Rattle.bits.proofs.Bits.{bit-zero, bit-and, bit-or, bit-either}
+use Rattle.bits.proofs.Bits.{bit-digit, bit-zero, bit-and, bit-or, bit-either}
 use Rattle.bits.proofs.Trailing.{trailing-set}
 use Rattle.rulesheet.specs.Rules.{hasOutput}
 use Rattle.cubes.specs.declared.Cube.{Cube}
 use Rattle.cubes.specs.Inner.Cubes.{isIn}
 use Rattle.coverage.specs.Inner.Gathering.{Marked, Gains, Put, Meets, PutIf, Added, AddedIf}
-use Rattle.coverage.proofs.Inputs.{bit-digit}
 use Rattle.coverage.proofs.Marks.{words-apart}
 
 -- Bits that stay, and bits of a word with a pattern.

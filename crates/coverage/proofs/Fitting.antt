@@ -11,12 +11,13 @@ use Rattle.fields.specs.Bounded.{all, any}
 use Rattle.fields.proofs.Bounded.{and-left, and-right, all-at, all-found, any-at, any-not, any-found, none-at}
 use Rattle.diagram.specs.Diagram.{Input, bit, inputOf, wordOf}
 use Rattle.diagram.proofs.Inputs.{inputNumber}
+use Rattle.bits.proofs.Bits.{bit-digit}
 use Rattle.rulesheet.specs.Rules.{RuleSheet, hasOutput}
 use Rattle.coverage.specs.declared.cover.Shares.the-variants.{Apart, Shared}
 use Rattle.coverage.specs.declared.cover.Gaps.the-variants.{Covered, Open}
 use Rattle.coverage.specs.Coverage.{fitsRule, wordOfRule, fitsTwo, sharesOf, gapsOf, hasRule, ruledAt}
 use Rattle.coverage.specs.Promises.{SharedInput, UnruledInput, OnlyRule}
-use Rattle.coverage.proofs.Inputs.{bit-digit, two-same, any-fits-same}
+use Rattle.coverage.proofs.Inputs.{two-same, any-fits-same}
 use Rattle.coverage.proofs.Covers.{both-ways}
 
 module _ (s : RuleSheet) where

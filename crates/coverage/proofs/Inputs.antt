@@ -1,26 +1,20 @@
 -- Inputs and rules: a rule looks at the contacts below n alone, so every input is one of the numbered ones, and one of those at the bits
 -- of the words.
-use Prim.Native.Nat.{ℕ, zero, suc, _+_, _*_, _-_, _/_, _%_, _^_, _<_}
+use Prim.Native.Nat.{ℕ, suc, _+_, _*_, _-_, _/_, _%_, _^_, _<_}
 use native.Mathlib.Omega.{arith}
-use mathlib.Core.Path.{_≡_, refl, ap, ap₂, _∙_}
-use mathlib.Core.Bool.{Bool, true, false, _&&_}
-use lib.Dec.{eqb}
+use mathlib.Core.Path.{_≡_, ap, ap₂, _∙_}
+use mathlib.Core.Bool.{Bool, _&&_}
 use lib.ListN.{getD}
 use Rattle.fields.specs.Bounded.{any}
 use Rattle.fields.proofs.Bounded.{all-agree, any-agree}
 use Rattle.diagram.specs.Diagram.{Input, bit, inputOf}
 use Rattle.diagram.proofs.Inputs.{inputNumber}
 use Rattle.functions.proofs.Trees.{Values}
+use Rattle.bits.proofs.Bits.{bit-lt}
 use Rattle.canonical.specs.Inner.Blocks.{inputAt}
 use Rattle.rows.proofs.Rows.{words-enough}
 use Rattle.rulesheet.specs.Rules.{RuleSheet, accepts, hasOutput}
 use Rattle.coverage.specs.Coverage.{fitsRule, wordOfRule, fitsTwo, hasRule, ruledAt}
-
--- A bit by whether it is 1.
-pub bit-digit : (d : ℕ) → d < 2 → bit (eqb d 1) ≡ d
-bit-digit zero h = refl
-bit-digit (suc zero) h = refl
-bit-digit (suc (suc d)) h = absurd (omega arith)
 
 -- Two inputs with the same values of the first n contacts.
 abbrev pub Agree : ℕ → Input → Input → Type 0
@@ -40,12 +34,8 @@ pub ruled-values : (s : RuleSheet) (j : ℕ) → Values (s .contacts) (ruledAt s
 ruled-values s j =
     record {
       first = λ x y same. ap bit (any-agree (s .count) _ _ (λ i h. ap (λ (b : Bool). b && hasOutput (wordOfRule s i) j) (fits-same s x y same i)));
-      bit = λ x. bit-below (any (s .count) (hasRule s j x));
+      bit = λ x. bit-lt (any (s .count) (hasRule s j x));
     }
-  where
-    bit-below : (b : Bool) → bit b < 2
-    bit-below true = omega arith
-    bit-below false = omega arith
 
 -- The bit at which an input stands.
 pub record Place (n : ℕ) (x : Input) : Type 0 where

@@ -12,9 +12,9 @@ use Rattle.fields.specs.Fields.{Item, Fields, itemIn, valueIn}
 use Rattle.fields.specs.Refusals.{framingNumber}
 use Rattle.fields.proofs.Bounded.{and-left}
 use Rattle.files.specs.declared.header.Contacts.the-variants.{Counted, Uncounted}
-use Rattle.files.specs.Header.{contactsOf, contactsIn, hasParts}
+use Rattle.files.specs.Header.{contactsIn, hasParts}
 use Rattle.files.specs.Inner.Row.{endsWithin}
-use Rattle.files.proofs.Heads.{counted}
+use Rattle.files.proofs.Heads.{contacts-are}
 use Rattle.files.proofs.Taking.{three-or-four}
 use Rattle.drawing.specs.declared.form.Form.the-variants.{Formed, Unformed}
 use Rattle.drawing.specs.Drawing.{Drawing, drawingOf, nodeCount, levelIn, edgeIn, isNumber, isAbove, isNode, isDrawing, formOf}
@@ -57,9 +57,6 @@ module _ (nodes : List ℕ) (n i : ℕ) where
 
   pub zero-right : levelIn nodes i < n → zeroAbove ≡ true → {b : Bool} → b ≡ oneAbove → b ≡ isNode n nodes i
   zero-right h e f = f ∙ simp (lt-ltb (levelIn nodes i) n h, e)
-
-pub contacts-are : (is : List Item) {n : ℕ} → contactsIn is ≡ Counted n → contactsOf is ≡ n
-contacts-are is {n} e = ap (λ (is : List Item). contactsOf is) (counted is n e .split)
 
 -- What was asked of the parts was asked of the drawing.
 pub parts-are : (is : List Item) {n : ℕ} {outputs nodes : List ℕ} {b : Bool} → contactsIn is ≡ Counted n →

@@ -11,7 +11,7 @@ use Rattle.fields.specs.Fields.{Item}
 use Rattle.fields.specs.Refusals.{between}
 use Rattle.files.specs.declared.header.Contacts.{Contacts}
 use Rattle.files.specs.declared.header.Contacts.the-variants.{Counted, Uncounted}
-use Rattle.files.specs.Header.{contactsIn, contactsNumber}
+use Rattle.files.specs.Header.{contactsIn, contactsNumber, contactsOf}
 
 abbrev pub field : ℕ → List ℕ → Item
 field tag value = record { tag = tag; value = value }
@@ -56,6 +56,9 @@ counted (i ∷ is) n e = go (first && between 1 m 12) refl e
           high = rw q at (leb-true m 12 (range .1));
         }
     go false t e = absurd (let z : _≡_ {A = ℕ} 0 1 = cc in omega arith)
+
+pub contacts-are : (is : List Item) {n : ℕ} → contactsIn is ≡ Counted n → contactsOf is ≡ n
+contacts-are is {n} e = ap (λ (is : List Item). contactsOf is) (counted is n e .split)
 
 pub counts : (is : List Item) → eqb (contactsNumber (contactsIn is)) 0 ≡ true → (n : ℕ) × CountHead is n
 counts is e = go (contactsIn is) refl e

@@ -17,7 +17,7 @@ use Rattle.fields.proofs.Bounded.{all-not, and-left, and-right}
 use Rattle.files.specs.declared.header.Contacts.the-variants.{Counted, Uncounted}
 use Rattle.files.specs.Header.{contactsIn, contactsOf}
 use Rattle.files.specs.Inner.Row.{endsWithin, behind}
-use Rattle.files.proofs.Heads.{counted}
+use Rattle.files.proofs.Heads.{contacts-are}
 use Rattle.files.proofs.Taking.{ends-past}
 use Rattle.rulesheet.specs.declared.form.Form.the-variants.{Formed, Unformed}
 use Rattle.rulesheet.specs.Rules.{ruleFields, ruleWord, outputsOf, isOutputs, isRule, areRules, formOf}
@@ -87,9 +87,6 @@ module _ (n m : ℕ) (fs : Fields) where
           (λ q. simp (l, lt-leb (length is) 64 (omega (arith, leb-false (length is) k l)), and-false)) last
 
 -- The whole question.
-pub contacts-are : (is : List Item) {n : ℕ} → contactsIn is ≡ Counted n → contactsOf is ≡ n
-contacts-are is {n} e = ap (λ (is : List Item). contactsOf is) (counted is n e .split)
-
 counted-some : (b : Bool) (k : ℕ) {r : ℕ} → r ≡ cond b k 0 → (r ≡ 0 → ⊥) → (b ≡ true) × (k ≡ r)
 counted-some true k e h = (refl, sym e)
 counted-some false k e h = absurd (h e)
