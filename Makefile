@@ -35,7 +35,7 @@ $(LIBRARY): $(shell find crates -name '*.rt' -o -name '*.antt')
 
 test: | build
 	rt fmt --check
-	set -o pipefail; rt ci | tee build/ci.log
+	set -o pipefail; RT_JOBS=3 tests/in_memory.sh rt ci | tee build/ci.log
 	$(MAKE) --no-print-directory -j2 -Otarget test-c
 	@tail -n 1 build/ci.log
 

@@ -1,6 +1,6 @@
 // The number that a probe gets, the smallest betraying input, the lowest output that shows it there and the way, and what stands
 // in the lent buffer from a place on: behind the netlist's file, every line's value from line 0 up.
-use probe::Way;
+use stuck::Way;
 use text::print;
 use text::spelling;
 

@@ -1,6 +1,6 @@
 // The services for C. include/pilgodur.h has their prototypes; a byte string is a pointer and then a length there.
+use answers::Probed;
 use files::Written;
-use probe::Way;
 use synthesis::Checked;
 use table::Reading;
 ghost use mathlib.Core.Path.{_≡_};
@@ -10,16 +10,7 @@ ghost use Rattle.sheet.specs.Service.{sheetingOf};
 ghost use Rattle.truths.specs.Service.{fromDrawingOf};
 ghost use Rattle.coverage.specs.Service.{fromRulesOf};
 ghost use Rattle.synthesis.specs.Service.{checkedOf, buildingOf, lampBuildingOf};
-ghost use Rattle.pilgodur.specs.Answers.{wayNumber, probeOf};
-
-// What probe returns to C; the way is 0 for both low, 1 for both high.
-#[repr(C)]
-pub struct Probed {
-    pub refusal: u32,
-    pub input: u32,
-    pub output: u32,
-    pub way: u32,
-}
+ghost use Rattle.answers.specs.Answers.{probeOf};
 
 // Checks a table: questions 1 to 7; its contacts and outputs, and the gates and depth of its netlist.
 #[no_mangle]
@@ -70,16 +61,6 @@ pub extern "C" fn pilgodur_run(
     simulation::run(netlist, rails, holds, lines, pairs)
 }
 
-// The number of a way.
-fn way_number(way: Way) -> u32
-    ensures { λ r. ⌜ r ≡ wayNumber way ⌝ }
-{
-    match way {
-        Way::BothLow => 0,
-        Way::BothHigh => 1,
-    }
-}
-
 // Probes a stuck line: questions 1 to 7, 14, 15, then 9.
 #[no_mangle]
 pub extern "C" fn pilgodur_probe(table: &[u8], hold: &[u8], buffer: &mut [u8]) -> Probed
@@ -92,7 +73,7 @@ pub extern "C" fn pilgodur_probe(table: &[u8], hold: &[u8], buffer: &mut [u8]) -
         refusal: probed.refusal,
         input: probed.input,
         output: probed.output,
-        way: way_number(way),
+        way: answers::way_number(way),
     }
 }
 

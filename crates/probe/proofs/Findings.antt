@@ -16,8 +16,8 @@ use Rattle.simulation.proofs.Runs.{length-run}
 use Rattle.rules.specs.Code.{codeRails}
 use Rattle.rules.proofs.Codes.{code-length}
 use Rattle.faults.specs.Betrayal.{stuckAt}
-use Rattle.probe.specs.Inner.Findings.{RunReady}
-use Rattle.probe.proofs.OneHold.{one-hold}
+use Rattle.stuck.specs.Inner.Findings.{RunReady}
+use Rattle.stuck.proofs.OneHold.{one-hold}
 
 module _ (file values buffer : List ℕ) where
   abbrev rest : List ℕ

@@ -1,9 +1,9 @@
 // The service probe.
-use crate::fanout;
-use crate::fanout::Fanout;
 use diagram::Diagram;
 use drive::Holds;
 use files::Room;
+use stuck::Fanout;
+use stuck::Probed;
 ghost use mathlib.Core.Path.{_≡_};
 ghost use mathlib.Core.Bool.{true};
 ghost use mathlib.Core.List.{[], _++_};
@@ -16,45 +16,9 @@ ghost use Rattle.files.specs.Room.{over};
 ghost use Rattle.rules.specs.Board.{boardOf};
 ghost use Rattle.rules.specs.Code.{codeRails};
 ghost use Rattle.faults.specs.Betrayal.{stuckAt, someNoCode};
-ghost use Rattle.probe.specs.Service.{oneHold, wayOf, foundAt, refusedProbe, probingOf};
-ghost use Rattle.probe.specs.Inner.Probing.{probingOn};
-ghost use Rattle.probe.specs.Inner.Findings.{RunReady, WriteReady, ProbeReady, FoundAndWritten, AcceptedDiagram};
-
-// How a pair without a code shows.
-pub enum Way {
-    BothLow,
-    BothHigh,
-}
-
-// What probe returns: the smallest betraying input, the lowest output that shows it there and the way it shows, or the refusal.
-pub struct Probed {
-    pub refusal: u32,
-    pub input: u32,
-    pub output: u32,
-    pub way: Way,
-}
-
-// A refusal, with every other result zero.
-fn refused(number: u32) -> Probed
-    ensures { λ r. ⌜ r ≡ refusedProbe number ⌝ }
-{
-    Probed {
-        refusal: number,
-        input: 0,
-        output: 0,
-        way: Way::BothLow,
-    }
-}
-
-// Question 14, for just one hold.
-fn ask_one_hold(lines: usize, hold: &[u8]) -> Holds
-    ensures { λ r. ⌜ r ≡ oneHold lines (now (hold .entry)) ⌝ }
-{
-    if hold.len() != 3 {
-        return Holds::Disordered;
-    }
-    drive::ask_holds(lines, hold)
-}
+ghost use Rattle.stuck.specs.Service.{foundAt, probingOf};
+ghost use Rattle.stuck.specs.Inner.Probing.{probingOn};
+ghost use Rattle.stuck.specs.Inner.Findings.{RunReady, WriteReady, ProbeReady, FoundAndWritten, AcceptedDiagram};
 
 // The rails of a code input, in line order from the start of the array.
 fn code_rails(n: usize, input: u32) -> [u8; 24]
@@ -80,17 +44,6 @@ fn show_at(gates: &[u8], n: usize, hold: &[u8], input: u32, lines: &mut [u8])
     let rails = code_rails(n, input);
     let count = 2 * n;
     simulation::work_out(gates, &rails[..count], hold, lines);
-}
-
-// The way in which a pair without a code shows, by its true line's value.
-fn way_of(value: u8) -> Way
-    ensures { λ r. ⌜ r ≡ wayOf value ⌝ }
-{
-    if value == 0 {
-        Way::BothLow
-    } else {
-        Way::BothHigh
-    }
 }
 
 // Writes the netlist's file and, behind it, every line's value at a code input with a line held, and returns where these start.
@@ -124,7 +77,7 @@ fn name_output(pairs: &[u8], lines: &[u8], input: u32) -> Probed
 {
     let output = search::lowest(pairs, lines);
     let on = batches::value_at(pairs, 4 * (output as usize), lines);
-    let way = way_of(on);
+    let way = stuck::way_of(on);
     Probed {
         refusal: 0,
         input: input,
@@ -156,17 +109,17 @@ fn probe_board(d: Diagram, hold: &[u8], buffer: &mut [u8], gates: &mut [u8]) -> 
     let mut pairs = [0u8; 32];
     let made = synthesis::synthesise(d, gates, &mut pairs);
     let lines = 2 + 2 * n + made;
-    let Holds::Ordered = ask_one_hold(lines, hold) else {
-        return refused(14);
+    let Holds::Ordered = stuck::ask_one_hold(lines, hold) else {
+        return stuck::refused(14);
     };
     let line = netlist::number_at(hold, 0) as usize;
-    let Fanout::Read = fanout::ask_fanout(d, line) else {
-        return refused(15);
+    let Fanout::Read = stuck::ask_fanout(d, line) else {
+        return stuck::refused(15);
     };
     let gate_bytes = 5 * made;
     let pair_bytes = 4 * d.outputs;
     let Room::Enough = files::ask_room(10 + gate_bytes + pair_bytes + lines, buffer.len()) else {
-        return refused(9);
+        return stuck::refused(9);
     };
     find(&gates[..gate_bytes], &pairs[..pair_bytes], n, hold, buffer)
 }
@@ -181,7 +134,7 @@ pub fn probe(table: &[u8], hold: &[u8], buffer: &mut [u8]) -> Probed
     let read = table::read(table);
     let refusal = read.refusal;
     if refusal != 0 {
-        return refused(refusal);
+        return stuck::refused(refusal);
     }
     let d = read.diagram;
     let most = synthesis::most_gates(d);

@@ -3,10 +3,10 @@ use borrow.Author.Needs.{needs}
 use Prim.Native.Nat.{ℕ}
 use mathlib.Core.Path.{_≡_, ap, ap₂}
 use mathlib.Core.List.{List}
-use Rattle.probe.specs.declared.service.Probed as core
-use Rattle.probe.specs.Service.{Probing}
-use Rattle.pilgodur.specs.declared.Probed.{Probed}
-use Rattle.pilgodur.specs.Answers.{wayNumber, probedBy, probeOf}
+use Rattle.stuck.specs.declared.answer.Probed as core
+use Rattle.stuck.specs.Service.{Probing}
+use Rattle.answers.specs.declared.Probed.{Probed}
+use Rattle.answers.specs.Answers.{wayNumber, probedBy, probeOf}
 use Rattle.pilgodur.proofs.pilgodur_probe.Statement.{statement}
 use Rattle.pilgodur.proofs.pilgodur_probe.Tie as tie
 

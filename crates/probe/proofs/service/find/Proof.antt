@@ -11,9 +11,9 @@ use Rattle.files.specs.Room.{over}
 use native.Mathlib.Nat.{add-zero}
 use Rattle.netlist.proofs.Written.{length-file}
 use Rattle.faults.specs.Betrayal.{stuckAt, smallestInput}
-use Rattle.probe.specs.Service.{foundAt}
+use Rattle.stuck.specs.Service.{foundAt}
 use Rattle.probe.proofs.Findings.{read-behind, length-lines}
-use Rattle.probe.proofs.Probes.{betrayed-there}
+use Rattle.stuck.proofs.Probes.{betrayed-there}
 use Rattle.probe.proofs.service.find.Statement.{statement}
 use Rattle.probe.proofs.service.find.Tie as tie
 

@@ -8,7 +8,7 @@ use Rattle.netlist.proofs.Lists.{length-pairs}
 use Rattle.wiring.proofs.Tests.{pairs-at}
 use Rattle.faults.specs.Betrayal.{noCode}
 use Rattle.fields.proofs.Least.{least-first}
-use Rattle.probe.proofs.Probes.{found-by}
+use Rattle.stuck.proofs.Probes.{found-by}
 use Rattle.probe.proofs.service.name_output.Statement.{statement}
 use Rattle.probe.proofs.service.name_output.Tie as tie
 

@@ -3,8 +3,8 @@ use borrow.Author.Needs.{needs}
 use native.Mathlib.Omega.{arith}
 use Rattle.table.specs.Promises.{Accepted}
 use Rattle.synthesis.proofs.Services.{Unrefused, unrefused}
-use Rattle.probe.specs.Inner.Findings.{AcceptedDiagram}
-use Rattle.probe.proofs.Outcomes.{table-refused, probe-done}
+use Rattle.stuck.specs.Inner.Findings.{AcceptedDiagram}
+use Rattle.stuck.proofs.Outcomes.{table-refused, probe-done}
 use Rattle.probe.proofs.service.probe.Statement.{statement}
 use Rattle.probe.proofs.service.probe.Tie as tie
 

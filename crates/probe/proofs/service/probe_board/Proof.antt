@@ -16,12 +16,12 @@ use Rattle.drive.proofs.Tests.{HoldIn}
 use Rattle.files.specs.Room.{roomOf}
 use Rattle.rules.specs.Board.{boardOf}
 use Rattle.synthesis.proofs.Services.{gates-few, taken-gates, taken-pairs}
-use Rattle.probe.specs.Inner.Findings.{AcceptedDiagram}
-use Rattle.probe.specs.declared.fanout.Fanout.the-variants.{Read}
-use Rattle.probe.specs.Service.{oneHold, fanoutOf}
-use Rattle.probe.proofs.Boards.{gatesOn, pairsOn, sized, reduced}
-use Rattle.probe.proofs.OneHold.{one-held, held-line}
-use Rattle.probe.proofs.Outcomes.{lines-are, disordered, unread, short, ready, found}
+use Rattle.stuck.specs.Inner.Findings.{AcceptedDiagram}
+use Rattle.stuck.specs.declared.fanout.Fanout.the-variants.{Read}
+use Rattle.stuck.specs.Service.{oneHold, fanoutOf}
+use Rattle.stuck.proofs.Boards.{gatesOn, pairsOn, sized, reduced}
+use Rattle.stuck.proofs.OneHold.{one-held, held-line}
+use Rattle.stuck.proofs.Outcomes.{lines-are, disordered, unread, short, ready, found}
 use Rattle.probe.proofs.service.probe_board.Statement.{statement}
 use Rattle.probe.proofs.service.probe_board.Tie as tie
 

@@ -1,0 +1,5 @@
+pub mod OneHold
+pub mod Probes
+pub mod Boards
+pub mod Fanouts
+pub mod Outcomes
