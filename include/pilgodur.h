@@ -34,11 +34,15 @@
  * LAMP. The lamp is one pair made from those of all outputs, by gates that follow the others: what the field calls a two-rail checker.
  * Two pairs a, a' and b, b' are joined by six gates in this sequence: AND a b, AND a' b', the OR of these two as the true line; AND a
  * b', AND a' b, the OR of these two as the false line. Of several pairs the first half, rounded up, is joined by this same rule, then
- * the others, then the two pairs so made; one pair is itself. Constants may be sources. With no line of these gates held the lamp's
- * pair is a code exactly if every output's pair is, at any rails. At a code input, with lines held all one way, also of these gates, it
- * shows the code that it has there with none held, or 00 for lines held at 0, or 11 for lines held at 1.
+ * the others, then the two pairs so made; one pair is itself. Constants may be sources. With no line and no pin of these gates held
+ * the lamp's pair is a code exactly if every output's pair is, at any rails. At a code input, with lines and pins held all one way, also
+ * of these gates, it shows the code that it has there with none held, or 00 for holds at 0, or 11 for holds at 1.
  *
- * HOLDS. A hold is three bytes: a line, then the value 0 or 1 at which it is held.
+ * HOLDS. A pin is one of the two inputs of a gate: its first or its second source. A hold is three bytes: a line, then a value byte,
+ * which is 0 or 1 for the line held at that value, 2 or 3 for the first pin of the line's gate held at 0 or 1, 4 or 5 for its second
+ * pin held at 0 or 1. A gate reads the held value at a held pin; the pin's source, and whoever else reads it, are as they were. Where a
+ * gate's own line is held too, the line's hold decides what it shows. In a list the holds of lines come first, rising, then those of
+ * pins by rising gate, the first before the second, each once; a rail has no pin.
  *
  * SHEET. A gate sheet is a netlist as text for paper, in rows of 21 characters and a line feed. A number stands in columns 1 to 5, a
  * kind in 7 to 9, a line A in 11 to 15, a line B in 17 to 21, and blanks between them. Numbers are decimal and stand right with
@@ -70,9 +74,9 @@
 extern "C" {
 #endif
 
-#define PILGODUR_VERSION "2.4.0"
+#define PILGODUR_VERSION "2.5.0"
 #define PILGODUR_VERSION_MAJOR 2
-#define PILGODUR_VERSION_MINOR 4
+#define PILGODUR_VERSION_MINOR 5
 #define PILGODUR_VERSION_PATCH 0
 
 /* The first tag of notes; the last is 255. */
@@ -95,8 +99,9 @@ extern "C" {
     Q(12, PILGODUR_REFUSAL_WIRING, "Is every kind 0 or 1, every source below its gate's own line, every output line and lamp line " \
       "in the netlist?") \
     Q(13, PILGODUR_REFUSAL_RAILS, "Are there 2n rail bytes, in line order, each 0 or 1?") \
-    Q(14, PILGODUR_REFUSAL_HOLDS, "Are the holds whole, each naming a line from 2 up that is in the netlist, with value 0 or 1, " \
-      "lines strictly rising?") \
+    Q(14, PILGODUR_REFUSAL_HOLDS, "Are the holds whole, first those of lines from 2 up that are in the netlist, with value 0 or 1, " \
+      "lines strictly rising, then those of pins of gates that are in the netlist, with value 2 to 5, by rising gate, first pin before " \
+      "second, each pin once?") \
     Q(15, PILGODUR_REFUSAL_UNREAD, "Does some gate or output read the line?") \
     Q(16, PILGODUR_REFUSAL_DRAWING, "Does the drawing have whole fields of tags 1, 2, 7 in that order and no more, tag 1 as in " \
       "question 2, tag 2 of 1 to 8 outputs, tag 7 of 0 to 200 whole nodes, every level below n, every edge to a constant or a " \
@@ -112,8 +117,8 @@ extern "C" {
 enum pilgodur_refusal { PILGODUR_REFUSAL_NONE = 0, PILGODUR_QUESTIONS(PILGODUR_REFUSAL_) };
 #undef PILGODUR_REFUSAL_
 
-/* The way in which a pair shows a held line. */
-enum pilgodur_way { PILGODUR_WAY_BOTH_LOW = 0, PILGODUR_WAY_BOTH_HIGH = 1 };
+/* The way in which a pair shows a held line or pin; hidden if no code input shows it. */
+enum pilgodur_way { PILGODUR_WAY_BOTH_LOW = 0, PILGODUR_WAY_BOTH_HIGH = 1, PILGODUR_WAY_HIDDEN = 2 };
 
 /* Buffers of these lengths are always long enough. For probe's the first two together are: its board is the plain one, without the
  * lamp, and needs 52,842 and 10,586 bytes at most. */
@@ -146,10 +151,10 @@ pilgodur_built pilgodur_build_with_lamp(const uint8_t *table, size_t table_len, 
 /* Reads all outputs off a table at an input. Questions 1 to 7, then 10. Returns a word in which output j has the weight 2^j. */
 pilgodur_reading pilgodur_read_off(const uint8_t *table, size_t table_len, uint32_t input);
 
-/* Runs a netlist, built by this library or not, with lines held. Questions 11 to 14, then 9 for either buffer. Returns the
+/* Runs a netlist, built by this library or not, with lines and pins held. Questions 11 to 14, then 9 for either buffer. Returns the
  * refusal.
  *   rails  2n bytes in line order, each 0 or 1; they need not be a code input.
- *   holds  three bytes each, with strictly rising lines; may be empty.
+ *   holds  three bytes each, lines before pins; may be empty.
  *   lines  gets every line's value, one byte each from line 0 up, held ones as held; needs one byte a line.
  *   pairs  gets two bytes an output, the values of its true line and its false line, and two more for the lamp if there is one;
  *          needs these bytes. */
@@ -157,11 +162,12 @@ uint32_t pilgodur_run(const uint8_t *netlist, size_t netlist_len, const uint8_t 
                       const uint8_t *holds, size_t holds_len, uint8_t *lines, size_t lines_len,
                       uint8_t *pairs, size_t pairs_len);
 
-/* Probes one line of a table's board, without the lamp. Questions 1 to 7, then 14, 15 and 9. hold is one hold, three bytes. Returns
- * the smallest code input at which the held line makes some pair 00 or 11, the lowest such output there, and the way it shows: 0 both
- * low, for a line held at 0, or 1 both high, for a line held at 1. Such an input exists for every line that is read, and for no other.
- * Writes to buffer the netlist file, then the value of every line at that input with the line held, one byte each from line 0 up;
- * buffer needs the length of both. */
+/* Probes one line or pin of a table's board, without the lamp. Questions 1 to 7, then 14, 15 and 9; a pin never gives 15. hold is one
+ * hold, three bytes. Returns the smallest code input at which it makes some pair 00 or 11, the lowest such output there, and the way
+ * it shows: 0 both low, for a hold at 0, or 1 both high, for a hold at 1. Such an input exists for every line that is read and for
+ * every pin held at 0; held at 1 only the first pin of an AND can be without one. That pin is hidden: the way is 2, input and output
+ * are 0. Writes to buffer the netlist file, then the value of every line at that input, or at input 0 if the pin is hidden, with the
+ * line or pin held, one byte each from line 0 up; buffer needs the length of both. */
 pilgodur_probed pilgodur_probe(const uint8_t *table, size_t table_len, const uint8_t *hold, size_t hold_len,
                                uint8_t *buffer, size_t buffer_len);
 

@@ -1,7 +1,7 @@
 -- The demands hold.
 use Prim.Native.Nat.{ℕ, zero, suc}
 use native.Mathlib.Omega.{arith}
-use mathlib.Core.Path.{_≡_, refl}
+use mathlib.Core.Path.{_≡_, refl, sym, _∙_}
 use mathlib.Core.List.{List}
 use Rattle.diagram.specs.declared.Diagram.{Diagram}
 use Rattle.fields.proofs.Encoding.{file-is-row, row-is-read}
@@ -32,10 +32,15 @@ use Rattle.rules.specs.Lamp.{lampBoard}
 use Rattle.synthesis.specs.Service.{checkedOr, checkedOf, buildingOf, lampBuildingOf}
 use Rattle.rules.proofs.Promises.{within-formulas, built-files-pass, right-code, different-netlists}
 use Rattle.stuck.specs.Service.{probeRefusal, probingOr, probingOf}
+use Rattle.faults.specs.Betrayal.{isSeen}
 use Rattle.faults.proofs.Promises.{no-wrong-lines, run-writes, no-unseen-line}
 use Rattle.faults.proofs.Spare.{gates-read, spare-contacts, unread-unseen}
-use Rattle.lamp.proofs.Promises.{plain-first, lamp-formulas, lamp-files-pass, different-lamp-netlists, lamp-right-code, lamp-is-code, lamp-no-wrong-code, lamp-shows-stuck-line}
-use Rattle.answers.proofs.Promises.{smallest, probe-writes}
+use Rattle.pins.proofs.LowPins.{low-pins-seen}
+use Rattle.pins.proofs.HighPins.{hidden-pins}
+use Rattle.lamp.proofs.Promises.{plain-first, lamp-formulas, lamp-files-pass, different-lamp-netlists}
+use Rattle.lamp.proofs.Promises.{lamp-right-code, lamp-is-code, lamp-no-wrong-code, lamp-shows-stuck-line}
+use Rattle.answers.proofs.OneHold.{refusal-by}
+use Rattle.answers.proofs.Promises.{smallest, probe-writes, hidden-if-unseen, lines-seen, fifteen-for-lines}
 use Rattle.answers.proofs.Notes.{same-answers}
 use Rattle.answers.specs.Answers.{wayNumber, probeOf}
 use Rattle.answers.specs.Demands.{Refusals, Demands}
@@ -57,7 +62,7 @@ run-refused (suc r) net rails holds lines pairs k e = (refl, refl)
 probe-refused : (r : ℕ) (net : Netlist) (hold : Hold) (buffer : List ℕ) (k : ℕ) → probingOr r net hold buffer .answer .refusal ≡ suc k →
     let p = probingOr r net hold buffer in
     (p .answer .input ≡ 0) × (p .answer .output ≡ 0) × (wayNumber (p .answer .way) ≡ 0) × (p .buffer ≡ buffer)
-probe-refused zero net hold buffer k e = absurd (omega arith)
+probe-refused zero net hold buffer k e = absurd (let z = sym (refusal-by net hold (isSeen net hold)) ∙ e in omega arith)
 probe-refused (suc r) net hold buffer k e = (refl, refl, refl, refl)
 
 refusals : Refusals
@@ -95,6 +100,14 @@ demands =
             noUnseenLine = no-unseen-line;
             smallest = smallest;
             probeWrites = probe-writes;
+          };
+      pins =
+          record {
+            hidden = hidden-if-unseen;
+            linesSeen = lines-seen;
+            fifteen = fifteen-for-lines;
+            lowPinsSeen = low-pins-seen;
+            hiddenPins = hidden-pins;
           };
       spare = record { gatesRead = gates-read; contacts = spare-contacts; unseen = unread-unseen };
       sheets = record { determines = sheet-determines; length = sheet-length };

@@ -1,3 +1,5 @@
+pub mod Numbers
+pub mod OneHold
 pub mod Promises
 pub mod Notes
 pub mod Demands

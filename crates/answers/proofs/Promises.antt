@@ -1,54 +1,106 @@
 -- Demand 3 of what probe returns and writes.
-use Prim.Native.Nat.{ℕ, zero, suc, _≤_}
+use Prim.Native.Nat.{ℕ, zero, suc, _+_, _≤_}
+use native.Mathlib.Decide.{ℕ-discrete}
 use native.Mathlib.Omega.{arith}
-use mathlib.Core.Path.{_≡_, refl, ap, _∙_}
+use mathlib.Core.Path.{_≡_, refl, sym, _∙_}
+use mathlib.Core.Bool.{true, true≢false}
 use mathlib.Core.List.{List, _∷_}
+use mathlib.Core.Logic.{by-cases}
+use borrow.Author.Tests.{leb-true, le-leb, lt-leb}
+use lib.Dec.{leb}
+use lib.ListN.{length}
 use Rattle.fields.specs.Refusals.{firstNo}
-use Rattle.fields.proofs.Refusals.{first-yes}
-use Rattle.table.specs.Promises.{Accepted}
+use Rattle.fields.proofs.Refusals.{first-yes, first-only}
 use Rattle.table.specs.Table.{tableRefusal}
-use Rattle.netlist.specs.Netlist.{lineCount, isRead, holdAt}
+use Rattle.netlist.specs.Netlist.{gateLine, lineCount, isRead, siteOf, holdAt, fileOf}
+use Rattle.files.specs.declared.room.Room.{Room}
+use Rattle.files.specs.declared.room.Room.the-variants.{Enough, Short}
+use Rattle.files.specs.Room.{roomOf, roomNumber}
+use Rattle.drive.specs.declared.Holds.{Holds}
+use Rattle.drive.specs.declared.Holds.the-variants.{Ordered, Disordered}
 use Rattle.drive.specs.Questions.{holdsNumber}
 use Rattle.rules.specs.Board.{boardOf, tableBoard}
-use Rattle.faults.specs.Betrayal.{stuckAt}
-use Rattle.answers.specs.Answers.{wayNumber, probeOf}
-use Rattle.answers.specs.Promises.{Smallest, ProbeWrites}
-use Rattle.stuck.specs.Service.{oneHold, fanoutOf, fanoutNumber, wayOf, probeRefusal, probingOf}
-use Rattle.faults.proofs.Betrayed.{smallest-at, true-at}
+use Rattle.faults.specs.Betrayal.{stuckAt, isSeen}
+use Rattle.faults.proofs.Betrayed.{betrayed}
+use Rattle.faults.proofs.Spare.{gates-read}
+use Rattle.stuck.specs.Service.{oneHold, probeRefusal, probingOf}
 use Rattle.stuck.proofs.Fanouts.{read-zero}
 use Rattle.stuck.proofs.OneHold.{one-hold, one-held, held-line, ordered-zero}
-
--- The first answers of a probe that is not refused.
-yes-to-three : (a b c : ℕ) (ks : List ℕ) → firstNo (a ∷ b ∷ c ∷ ks) ≡ 0 → (a ≡ 0) × (b ≡ 0) × (c ≡ 0)
-yes-to-three a b c ks e =
-    let (one, rest) = first-yes a (b ∷ c ∷ ks) e in
-    let (two, last) = first-yes b (c ∷ ks) rest in
-    (one, two, first-yes c ks last .0)
-
--- A way has the number of the value that both lines show.
-way-of : (v : ℕ) → v ≤ 1 → wayNumber (wayOf v) ≡ v
-way-of zero h = refl
-way-of (suc zero) h = refl
-way-of (suc (suc v)) h = absurd (omega arith)
+use Rattle.answers.specs.Answers.{probeOf}
+use Rattle.answers.specs.Promises.{Smallest, HiddenIfUnseen, LinesSeen, FifteenForLines, ProbeWrites}
+use Rattle.answers.proofs.OneHold.{none-betrays, not-seen, hidden-by, input-by, answered}
+use Rattle.answers.proofs.Numbers.{table-numbers}
 
 pub smallest : Smallest
-unfolding probeOf probingOf probeRefusal boardOf
+unfolding probeOf probingOf probeRefusal
 smallest table hold buffer bytes e =
+    rw e (answered table (bytes, first-yes _ _ e .0) (holdAt hold 0) (isSeen (tableBoard table) (holdAt hold 0)) refl)
+
+pub hidden-if-unseen : HiddenIfUnseen
+unfolding probeOf probingOf boardOf
+hidden-if-unseen table hold buffer e =
     let net = tableBoard table in
-    let line = holdAt hold 0 .line in
-    let value = holdAt hold 0 .value in
-    let zeros = yes-to-three (tableRefusal table) (holdsNumber (oneHold (lineCount net) hold)) (fanoutNumber (fanoutOf net line)) _ e in
-    let held = held-line (lineCount net) hold (ordered-zero _ (zeros .1)) in
-    let read = read-zero (isRead net line) (zeros .2) in
-    let all : Accepted table = (bytes, zeros .0) in
-    let s = smallest-at table all line value (held .after) read (held .bit) in
-    let shows = true-at table all line value (held .after) read (held .bit) in
-    rw e (s .0, s .1, s .2, s .3, s .4, ap (λ (v : ℕ). wayNumber (wayOf v)) shows ∙ way-of value (held .bit))
+    let h = holdAt hold 0 in
+    rw e (
+      λ way. none-betrays net h (hidden-by net h (isSeen net h) way),
+      λ none. rw (not-seen net h none) refl,
+    )
+
+-- What a probe says that is not refused.
+unrefused : (table hold : List ℕ) (lent : ℕ) → probeRefusal table hold lent ≡ 0 →
+    let net = tableBoard table in
+    (tableRefusal table ≡ 0) × (oneHold (gateLine (net .contacts)) (lineCount net) hold ≡ Ordered)
+    × (isRead net (holdAt hold 0 .line) ≡ true)
+unfolding probeRefusal
+unrefused table hold lent e =
+    let (table-yes, rest) = first-yes _ _ e in
+    let (hold-yes, rest) = first-yes _ _ rest in
+    (table-yes, ordered-zero _ hold-yes, read-zero _ (first-yes _ _ rest .0))
+
+pub lines-seen : LinesSeen
+unfolding probeOf probingOf isSeen boardOf
+lines-seen table hold buffer bytes e line =
+    let net = tableBoard table in
+    let h = holdAt hold 0 in
+    let (all, ordered, read) = unrefused table hold (length buffer) e in
+    let few : h .value ≤ 1 = omega arith in
+    let low : 2 ≤ h .line = rw (le-leb (h .value) 1 few) at (held-line _ _ hold ordered .after) in
+    let seen = betrayed table (bytes, all) (h .line) (h .value) low read few in
+    rw e (λ way. true≢false (sym seen ∙ hidden-by net h (isSeen net h) way))
+
+-- A no of number m that is not the first answer's.
+later-no : (m k : ℕ) (ks : List ℕ) → firstNo (k ∷ ks) ≡ m → (k ≡ m → ⊥) → (k ≡ 0) × (firstNo ks ≡ m)
+unfolding firstNo
+later-no m zero ks e ne = (refl, e)
+later-no m (suc k) ks e ne = absurd (ne e)
+
+holds-number : (o : Holds) → holdsNumber o ≡ 15 → ⊥
+holds-number Ordered e = omega arith
+holds-number Disordered e = omega arith
+
+room-number : (r : Room) → roomNumber r ≡ 15 → ⊥
+room-number Enough e = omega arith
+room-number Short e = omega arith
+
+pub fifteen-for-lines : FifteenForLines
+unfolding probeRefusal boardOf
+fifteen-for-lines table hold lent bytes e =
+    let net = tableBoard table in
+    let h = holdAt hold 0 in
+    let one = oneHold (gateLine (net .contacts)) (lineCount net) hold in
+    by-cases (ℕ-discrete (siteOf h) 0) (λ line. line) (λ pin.
+    let (all, rest) = later-no 15 _ _ e (λ q. omega (arith, table-numbers table)) in
+    let (hold-yes, rest) = later-no 15 _ _ rest (holds-number one) in
+    let i = held-line _ _ hold (ordered-zero one hold-yes) in
+    let gate : leb (gateLine (net .contacts)) (h .line) ≡ true = rw (lt-leb (h .value) 1 (omega arith)) at (i .gate) in
+    let read = gates-read table (bytes, all) (h .line) (leb-true _ _ gate) (i .within) in
+    let (_, rest) = later-no 15 _ _ rest (λ q. let z : _≡_ {A = ℕ} 0 15 = rw read at q in omega arith) in
+    absurd (room-number (roomOf (length (fileOf net) + lineCount net) lent) (sym (first-only _) ∙ rest)))
 
 pub probe-writes : ProbeWrites
-unfolding probeOf probingOf probeRefusal stuckAt
+unfolding probeOf probingOf stuckAt
 probe-writes table hold buffer e =
     let net = tableBoard table in
-    let zeros = yes-to-three (tableRefusal table) (holdsNumber (oneHold (lineCount net) hold)) _ _ e in
-    let one = one-held (lineCount net) hold (ordered-zero _ (zeros .1)) in
-    rw (e, one-hold hold (one .0))
+    let h = holdAt hold 0 in
+    let (_, ordered, _) = unrefused table hold (length buffer) e in
+    rw (e, one-hold hold (one-held _ _ hold ordered .0), input-by net h (isSeen net h))

@@ -30,12 +30,12 @@ use Rattle.files.specs.Room.{writingOf}
 use Rattle.sheet.specs.Sheet.{decimal, inFive, rowText, numberedRows, rowsFrom, sheetOf}
 use Rattle.sheet.specs.Service.{sheetingOf}
 use Rattle.synthesis.specs.Service.{checkedOf, buildingOf, lampBuildingOf}
-use Rattle.faults.specs.Betrayal.{stuckAt, noCode, betrays}
+use Rattle.faults.specs.Betrayal.{stuckAt, noCode, betrays, isSeen}
 use Rattle.stuck.specs.Service.{probeRefusal, probingOf}
 use Rattle.answers.specs.Answers.{probeOf}
 use mathlib.Core.List.{flatMap}
 
 pub all-starred : AllHold starred
-unfolding all any rawStepAt valueOf rawFieldsWithin rawFieldsFrom butNotes fieldsFrom fieldsOf encoded contactsIn firstNo width edgeAt root inputOf inRange distinct mention mentions brought numbered outputsIn areLevels padded diagramOf fieldsRefusal diagramRefusal tableRefusal listed anyOf isRead gatesOf pairsOf holdsOf fileOf fileWith drive workOut held valuesOf shownOf formOf isSound areOrdered netlistOf netlistRefusal runRefusal runOf _>>=_ sequence cutWithin cut term blocks.tree joined productEntry product levelMatrix block wholeBlock boardOf depthsOf depthOf codeRails checkedOf writingOf buildingOf lampBuildingOf join lampOf withLamp stuckAt noCode betrays leastFrom probeRefusal probingOf probeOf decimal inFive rowText numberedRows rowsFrom sheetOf sheetingOf flatMap bytesOf same tree place firsts levelOf isNarrow isAbove isDrawing next lead drawing.formOf drawingRefusal fromDrawingOf rulesheet.formOf rulesRefusal fromRulesOf
+unfolding all any rawStepAt valueOf rawFieldsWithin rawFieldsFrom butNotes fieldsFrom fieldsOf encoded contactsIn firstNo width edgeAt root inputOf inRange distinct mention mentions brought numbered outputsIn areLevels padded diagramOf fieldsRefusal diagramRefusal tableRefusal listed anyOf isRead gatesOf pairsOf holdsOf fileOf fileWith drive workOut held valuesOf shownOf formOf isSound areOrdered netlistOf netlistRefusal runRefusal runOf _>>=_ sequence cutWithin cut term blocks.tree joined productEntry product levelMatrix block wholeBlock boardOf depthsOf depthOf codeRails checkedOf writingOf buildingOf lampBuildingOf join lampOf withLamp stuckAt noCode betrays isSeen leastFrom probeRefusal probingOf probeOf decimal inFive rowText numberedRows rowsFrom sheetOf sheetingOf flatMap bytesOf same tree place firsts levelOf isNarrow isAbove isDrawing next lead drawing.formOf drawingRefusal fromDrawingOf rulesheet.formOf rulesRefusal fromRulesOf
 all-starred =
-    (refl, ((refl, refl, refl), ((refl, refl), ((refl, refl), (refl, (refl, ((refl, refl), (refl, ((refl, refl, refl), (refl, (refl, (refl, ((refl, refl, refl), (refl, (refl, (refl, (refl, ((refl, refl, refl), ((refl, refl, refl), ((refl, refl, refl), ((refl, refl, refl), ((refl, refl, refl), ((refl, refl, refl), ((refl, refl, refl), (refl, ((refl, refl, refl), ((refl, refl, refl), ((refl, refl, refl), ((refl, refl, refl), ((refl, refl), ((refl, refl), ((refl, refl, refl), (refl, ((refl, refl, refl), (refl, (refl, (refl, ((refl, refl), ((refl, refl, refl), ((refl, refl, refl), ((refl, refl, refl), ((refl, refl, refl), ((refl, refl, refl), ((refl, refl, refl), ((refl, refl, refl), ((refl, refl, refl), ((refl, refl, refl), ((refl, refl, refl), ((refl, refl, refl), ((refl, refl, refl), ((refl, refl, refl), ((refl, refl, refl), ((refl, refl, refl), ((refl, refl, refl), tt))))))))))))))))))))))))))))))))))))))))))))))))))))))
+    (refl, ((refl, refl, refl), ((refl, refl), ((refl, refl), (refl, (refl, ((refl, refl), (refl, ((refl, refl, refl), (refl, (refl, (refl, ((refl, refl, refl), (refl, (refl, (refl, (refl, ((refl, refl, refl), ((refl, refl, refl), ((refl, refl, refl), ((refl, refl, refl), ((refl, refl, refl), ((refl, refl, refl), ((refl, refl, refl), (refl, ((refl, refl, refl), ((refl, refl, refl), ((refl, refl, refl), ((refl, refl, refl), ((refl, refl), ((refl, refl), ((refl, refl, refl), (refl, ((refl, refl, refl), (refl, (refl, (refl, ((refl, refl), ((refl, refl, refl), ((refl, refl, refl), ((refl, refl, refl), ((refl, refl, refl), ((refl, refl, refl), ((refl, refl, refl), ((refl, refl, refl), ((refl, refl, refl), ((refl, refl, refl), ((refl, refl, refl), ((refl, refl, refl), ((refl, refl, refl), ((refl, refl, refl), ((refl, refl, refl), ((refl, refl, refl), ((refl, refl, refl), ((refl, refl), ((refl, refl), (refl, ((refl, refl), ((refl, refl), ((refl, refl), ((refl, refl), (refl, (refl, (refl, (refl, (refl, (refl, tt)))))))))))))))))))))))))))))))))))))))))))))))))))))))))))))))))))

@@ -1,8 +1,9 @@
 -- The three demands and what was promised since, on the definitions that the services' contracts cite.
 --
--- The services return and write just what these definitions say, for every byte string (the contracts in src/lib.rt):
+-- The services return and write just what these definitions say, for every byte string (the contracts of crates/pilgodur/src/lib.rt):
 -- check `checkedOf`, build `buildingOf`, build with lamp `lampBuildingOf`, read-off `readingOf`, run `runOf`, probe `probeOf`, sheet
--- `sheetingOf`, from-drawing `fromDrawingOf`, from-rules `fromRulesOf`. That each call is answered, and that nothing else is written, is what the proof of every function's contract says.
+-- `sheetingOf`, from-drawing `fromDrawingOf`, from-rules `fromRulesOf`. That each call is answered, and that nothing else is written, is
+-- what the proof of every function's contract says.
 use Prim.Native.Nat.{ℕ, suc}
 use mathlib.Core.Path.{_≡_}
 use mathlib.Core.List.{List}
@@ -21,11 +22,13 @@ use Rattle.coverage.specs.Promises.{TableOfRules, NineteenIfShared, TwentyIfUnr
 use Rattle.synthesis.specs.Service.{checkedOf, buildingOf, lampBuildingOf}
 use Rattle.rules.specs.Promises.{WithinFormulas, BuiltFilesPass, RightCode, DifferentNetlists}
 use Rattle.answers.specs.Answers.{probeOf}
-use Rattle.answers.specs.Promises.{Smallest, ProbeWrites}
+use Rattle.answers.specs.Promises.{Smallest, ProbeWrites, HiddenIfUnseen, LinesSeen, FifteenForLines}
 use Rattle.answers.specs.Notes.{SameAnswers}
 use Rattle.faults.specs.Promises.{NoWrongCode, RunWrites, NoUnseenLine}
 use Rattle.faults.specs.Spare.{GatesRead, SpareContacts, UnreadUnseen}
-use Rattle.lamp.specs.Promises.{PlainFirst, LampFormulas, LampFilesPass, DifferentLampNetlists, LampRightCode, LampCode, LampNoWrongCode, LampShowsStuckLine}
+use Rattle.pins.specs.Promises.{LowPinsSeen, HiddenPins}
+use Rattle.lamp.specs.Promises.{PlainFirst, LampFormulas, LampFilesPass, DifferentLampNetlists}
+use Rattle.lamp.specs.Promises.{LampRightCode, LampCode, LampNoWrongCode, LampShowsStuckLine}
 
 -- Demand 1. The answer to every call is the full result or one numbered refusal; with a refusal every other result is zero, and it
 -- changes no byte that was lent.
@@ -58,14 +61,24 @@ pub record Netlists : Type 0 where
   pub right : RightCode
   pub different : DifferentNetlists
 
--- Demand 3. Nobody makes a permit pair show the wrong code by lines held all one way; nobody who holds just one line that some gate or
--- output reads stays unseen at every code input; the probe finds the smallest such input.
+-- Demand 3. Nobody makes a permit pair show the wrong code by lines and pins held all one way; nobody who holds just one line that some
+-- gate or output reads stays unseen at every code input; the probe of a line or pin finds the smallest input that betrays it, or that it
+-- is hidden.
 pub record StuckLines : Type 0 where
   pub noWrongCode : NoWrongCode
   pub runWrites : RunWrites
   pub noUnseenLine : NoUnseenLine
   pub smallest : Smallest
   pub probeWrites : ProbeWrites
+
+-- Stuck pins. A line or pin is found hidden exactly if no code input betrays it, which a line never is; 15 is given for lines only. A pin
+-- held at 0 is never hidden; only the first pin of an AND, held at 1, can be.
+pub record StuckPins : Type 0 where
+  pub hidden : HiddenIfUnseen
+  pub linesSeen : LinesSeen
+  pub fifteen : FifteenForLines
+  pub lowPinsSeen : LowPinsSeen
+  pub hiddenPins : HiddenPins
 
 -- Spare contacts. Every gate of a board is read; both rails of a contact are, or neither, and neither exactly if no output's value
 -- depends on the contact; a line that nothing reads stays unseen at every code input.
@@ -109,9 +122,9 @@ pub record AlikeNodes : Type 0 where
   pub all : AllPairs
 
 -- The lamp. The netlist of an accepted table with its lamp begins with the one without, is within the formulas, passes questions 11 and
--- 12 and differs from table to table; each permit pair shows the table's value and its opposite. With no added line held the lamp is a
--- code exactly if every permit pair is; nobody makes it or a permit pair show another code by lines held all one way; just one line held
--- of the plain board, if it is read there, shows at a permit pair and at the lamp.
+-- 12 and differs from table to table; each permit pair shows the table's value and its opposite. With no added line and no pin of an
+-- added gate held the lamp is a code exactly if every permit pair is; nobody makes it or a permit pair show another code by lines and pins
+-- held all one way; just one line held of the plain board, if it is read there, shows at a permit pair and at the lamp.
 pub record Lamps : Type 0 where
   pub plainFirst : PlainFirst
   pub within : LampFormulas
@@ -135,6 +148,7 @@ pub record Demands : Type 0 where
   pub first : Refusals
   pub second : Netlists
   pub third : StuckLines
+  pub pins : StuckPins
   pub spare : SpareLines
   pub sheets : Sheets
   pub drawings : Drawings

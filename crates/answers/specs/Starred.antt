@@ -13,14 +13,17 @@ use Rattle.synthesis.specs.Service.{checkedOf, buildingOf, lampBuildingOf}
 use Rattle.answers.specs.Answers.{probeOf}
 
 -- What a service answers: check's numbers; the file that build, or build with lamp, writes to a buffer of its length; the pairs that a
--- run of a netlist writes to a buffer of their length; probe's numbers; the lines of the sheet of a netlist, written to a buffer of its length; the table of a drawing, written to
--- a buffer of its length, or the refusal and no table; of a rule sheet likewise.
+-- run of a netlist writes to a buffer of their length, or the run's refusal; probe's numbers, also with what it leaves in a buffer of this
+-- length; the lines of the sheet of a netlist, written to a buffer of its length; the table of a drawing, written to a buffer of its
+-- length, or the refusal and no table; of a rule sheet likewise.
 pub data Case : Type 0 where
   checks : (table : List ℕ) (refusal contacts outputs gates depth : ℕ) → Case
   builds : (table : List ℕ) (size : ℕ) (file : List ℕ) → Case
   lights : (table : List ℕ) (size : ℕ) (file : List ℕ) → Case
   runs : (netlist rails holds pairs : List ℕ) → Case
+  refuses : (netlist rails holds : List ℕ) (refusal : ℕ) → Case
   probes : (table hold : List ℕ) (refusal input output way : ℕ) → Case
+  leaves : (table hold : List ℕ) (refusal input output way : ℕ) (buffer : List ℕ) → Case
   sheets : (netlist : List ℕ) (lines : List String) → Case
   draws : (drawing : List ℕ) (refusal : ℕ) (table : List ℕ) → Case
   rules : (sheet : List ℕ) (refusal : ℕ) (table : List ℕ) → Case
@@ -38,8 +41,12 @@ Answered (lights table size file) =
     let b = lampBuildingOf table (replicate size 0) in (b .refusal ≡ 0) × (b .length ≡ size) × (b .buffer ≡ file)
 Answered (runs netlist rails holds pairs) =
     let r = runOf netlist rails holds (replicate 17 0) (replicate (length pairs) 0) in (r .refusal ≡ 0) × (r .pairs ≡ pairs)
+Answered (refuses netlist rails holds refusal) = runOf netlist rails holds (replicate 17 0) room .refusal ≡ refusal
 Answered (probes table hold refusal input output way) =
     probeOf table hold room .answer ≡ record { refusal = refusal; input = input; output = output; way = way }
+Answered (leaves table hold refusal input output way buffer) =
+    let p = probeOf table hold (replicate (length buffer) 0) in
+    (p .answer ≡ record { refusal = refusal; input = input; output = output; way = way }) × (p .buffer ≡ buffer)
 Answered (sheets netlist lines) =
     let text = flatMap (λ (line : String). ascii line ++ ascii "\n") lines in
     let s = sheetingOf netlist (replicate (length text) 0) in (s .refusal ≡ 0) × (s .length ≡ length text) × (s .buffer ≡ text)
@@ -84,7 +91,12 @@ spare = 1 ∷ 0 ∷ 1 ∷ 2 ∷ 2 ∷ 0 ∷ 1 ∷ 0 ∷ 3 ∷ 0 ∷ 2 ∷ 0 ∷ 
 -- open.
 abbrev pub chooser : List ℕ
 chooser =
-    1 ∷ 0 ∷ 1 ∷ 4 ∷ 2 ∷ 0 ∷ 2 ∷ 0 ∷ 1 ∷ 3 ∷ 0 ∷ 4 ∷ 0 ∷ 1 ∷ 0 ∷ 0 ∷ 3 ∷ 0 ∷ 4 ∷ 0 ∷ 1 ∷ 2 ∷ 3 ∷ 3 ∷ 0 ∷ 8 ∷ 0 ∷ 0 ∷ 1 ∷ 0 ∷ 1 ∷ 1 ∷ 0 ∷ 1 ∷ 3 ∷ 0 ∷ 4 ∷ 0 ∷ 0 ∷ 0 ∷ 1 ∷ []
+    1 ∷ 0 ∷ 1 ∷ 4 ∷ 2 ∷ 0 ∷ 2 ∷ 0 ∷ 1
+    ∷ 3 ∷ 0 ∷ 4 ∷ 0 ∷ 1 ∷ 0 ∷ 0
+    ∷ 3 ∷ 0 ∷ 4 ∷ 0 ∷ 1 ∷ 2 ∷ 3
+    ∷ 3 ∷ 0 ∷ 8 ∷ 0 ∷ 0 ∷ 1 ∷ 0 ∷ 1 ∷ 1 ∷ 0 ∷ 1
+    ∷ 3 ∷ 0 ∷ 4 ∷ 0 ∷ 0 ∷ 0 ∷ 1
+    ∷ []
 
 -- Left block: AND 3 5; AND 3 4; AND 2 5; AND 2 4. Right block: AND 7 9; OR 6 14; AND 7 8; AND 6 9; OR 7 17; AND 6 8.
 -- First row, false: AND 11 15; AND 12 9; AND 13 18; OR 10 20; OR 21 22; OR 23 24.
@@ -330,4 +342,24 @@ starred =
     ∷ rules wideRules 17 []
     ∷ rules (drawingNumber ++ selectorRules ++ emptyNote) 0 selector
     ∷ rules (selectorRules ++ (128 ∷ 0 ∷ [])) 18 []
+    -- Pins. Held at 1, the first pin of line 8 is hidden, and so is that of line 9; the buffer has the lines at input 0, where the pin
+    -- makes line 9 show 1. The second pin of line 8 is not hidden, nor is the first held at 0; 9 comes before hidden.
+    ∷ leaves selector (0 ∷ 8 ∷ 3 ∷ []) 0 0 0 2
+    (selectorFile ++ (0 ∷ 1 ∷ 0 ∷ 1 ∷ 0 ∷ 1 ∷ 0 ∷ 1 ∷ 1 ∷ 0 ∷ 1 ∷ 0 ∷ 0 ∷ 1 ∷ 1 ∷ 0 ∷ 0 ∷ []))
+    ∷ leaves selector (0 ∷ 9 ∷ 3 ∷ []) 0 0 0 2
+    (selectorFile ++ (0 ∷ 1 ∷ 0 ∷ 1 ∷ 0 ∷ 1 ∷ 0 ∷ 1 ∷ 1 ∷ 1 ∷ 1 ∷ 0 ∷ 0 ∷ 1 ∷ 1 ∷ 0 ∷ 0 ∷ []))
+    ∷ probes selector (0 ∷ 8 ∷ 2 ∷ []) 0 0 0 0
+    ∷ leaves selector (0 ∷ 8 ∷ 5 ∷ []) 0 6 0 1
+    (selectorFile ++ (0 ∷ 1 ∷ 0 ∷ 1 ∷ 1 ∷ 0 ∷ 1 ∷ 0 ∷ 1 ∷ 0 ∷ 1 ∷ 1 ∷ 0 ∷ 0 ∷ 1 ∷ 1 ∷ 1 ∷ []))
+    ∷ leaves selector (0 ∷ 8 ∷ 3 ∷ []) 9 0 0 0 (replicate 75 0)
+    -- Input 0 with the first pin of line 10 held at 0: pair 00. With line 10 held at 1 too its hold decides: pair 01.
+    ∷ runs selectorFile (0 ∷ 1 ∷ 0 ∷ 1 ∷ 0 ∷ 1 ∷ []) (0 ∷ 10 ∷ 2 ∷ []) (0 ∷ 0 ∷ [])
+    ∷ runs selectorFile (0 ∷ 1 ∷ 0 ∷ 1 ∷ 0 ∷ 1 ∷ []) (0 ∷ 10 ∷ 1 ∷ 0 ∷ 10 ∷ 2 ∷ []) (0 ∷ 1 ∷ [])
+    -- A pin of a rail; a second pin before the first; a pin before a line; a pin twice; a value of 6.
+    ∷ probes selector (0 ∷ 7 ∷ 3 ∷ []) 14 0 0 0
+    ∷ refuses selectorFile (0 ∷ 1 ∷ 0 ∷ 1 ∷ 0 ∷ 1 ∷ []) (0 ∷ 7 ∷ 2 ∷ []) 14
+    ∷ refuses selectorFile (0 ∷ 1 ∷ 0 ∷ 1 ∷ 0 ∷ 1 ∷ []) (0 ∷ 8 ∷ 5 ∷ 0 ∷ 8 ∷ 2 ∷ []) 14
+    ∷ refuses selectorFile (0 ∷ 1 ∷ 0 ∷ 1 ∷ 0 ∷ 1 ∷ []) (0 ∷ 8 ∷ 2 ∷ 0 ∷ 10 ∷ 0 ∷ []) 14
+    ∷ refuses selectorFile (0 ∷ 1 ∷ 0 ∷ 1 ∷ 0 ∷ 1 ∷ []) (0 ∷ 8 ∷ 2 ∷ 0 ∷ 8 ∷ 3 ∷ []) 14
+    ∷ probes selector (0 ∷ 8 ∷ 6 ∷ []) 14 0 0 0
     ∷ []

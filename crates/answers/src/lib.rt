@@ -3,7 +3,7 @@ use stuck::Way;
 ghost use mathlib.Core.Path.{_≡_};
 ghost use Rattle.answers.specs.Answers.{wayNumber};
 
-// What probe returns to C; the way is 0 for both low, 1 for both high.
+// What probe returns to C; the way is 0 for both low, 1 for both high, 2 for hidden.
 #[repr(C)]
 pub struct Probed {
     pub refusal: u32,
@@ -19,5 +19,6 @@ pub fn way_number(way: Way) -> u32
     match way {
         Way::BothLow => 0,
         Way::BothHigh => 1,
+        Way::Hidden => 2,
     }
 }

@@ -3,7 +3,7 @@ ghost use mathlib.Core.Path.{_≡_};
 ghost use Prim.Native.Nat.{_+_, _≤_, _<_};
 ghost use lib.ListN.{length, getD};
 ghost use Rattle.netlist.specs.Netlist.{numberAt};
-ghost use Rattle.batches.specs.Inner.Batches.{gateBatch, heldBatch};
+ghost use Rattle.batches.specs.Inner.Batches.{gateBatch, heldBatch, holdOf, heldLine};
 
 // The batch of the line that two bytes name.
 pub fn batch_at(bytes: &[u8], at: usize, batches: &[u64]) -> u64
@@ -33,4 +33,15 @@ pub fn show_batch(line: usize, batch: u64, at: usize, made: u64) -> u64
     ensures { λ r. ⌜ r ≡ heldBatch line batch at made ⌝ }
 {
     if line == at { batch } else { made }
+}
+
+// The line whose site is held: a held line holds every site of it, a held pin one. 0, which nothing drives, if there is none.
+pub fn held_line(line: usize, value: u8, site: u8) -> usize
+    ensures { λ r. ⌜ r ≡ heldLine (holdOf line value) site ⌝ }
+{
+    let held = value / 2;
+    if held == 0 {
+        return line;
+    }
+    if held == site { line } else { 0 }
 }

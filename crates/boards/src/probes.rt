@@ -1,5 +1,5 @@
-// The number that a probe gets, the smallest betraying input, the lowest output that shows it there and the way, and what stands
-// in the lent buffer from a place on: behind the netlist's file, every line's value from line 0 up.
+// The number that a probe gets, the smallest betraying input, the lowest output that shows it there and the way, or that the pin is
+// hidden, and what stands in the lent buffer from a place on: behind the netlist's file, every line's value from line 0 up.
 use stuck::Way;
 use text::print;
 use text::spelling;
@@ -27,6 +27,9 @@ fn show_way(way: Way) {
         }
         Way::BothHigh => {
             print::text(b", both high");
+        }
+        Way::Hidden => {
+            print::text(b", hidden");
         }
     }
 }

@@ -1,9 +1,9 @@
--- Question 14 by its tests, and what a hold list of which it says yes shows on a line.
+-- Question 14 by its tests.
 use native.Mathlib.Numerals.{add-one}
 use borrow.Author.Tests.{ltb-true, leb-true}
 use Prim.Native.Nat.{ℕ, _+_, _/_, _≤_, _<_}
 use mathlib.Core.Path.{_≡_, sym, ap, ap₂, _∙_}
-use mathlib.Core.Bool.{true, false, _&&_, and-false}
+use mathlib.Core.Bool.{true, false, _&&_, _||_, and-false}
 use mathlib.Core.List.{List}
 use lib.Dec.{ltb, leb}
 use lib.ListN.{length}
@@ -12,40 +12,48 @@ use Rattle.fields.proofs.Bounded.{all-at, all-more, all-not, and-left, and-righ
 use Rattle.netlist.specs.declared.Hold.{Hold}
 use Rattle.netlist.specs.Netlist.{holdAt}
 use Rattle.drive.specs.declared.Holds.the-variants.{Disordered}
-use Rattle.drive.specs.Questions.{isHold, lineBefore, areHolds, areOrdered, orderOf}
+use Rattle.drive.specs.Questions.{rankOf, isHold, rankBefore, areHolds, areOrdered, orderOf}
 
 -- Hold i, as it was read after the hold before it.
-module _ (lines : ℕ) (holds : List ℕ) (i : ℕ) {before : ℕ} {h : Hold} (b : before ≡ lineBefore holds i) (e : h ≡ holdAt holds i) where
-  here : isHold lines (lineBefore holds i) (holdAt holds i) ≡ isHold lines before h
-  here = sym (ap₂ (isHold lines) b e)
+module _ (first lines : ℕ) (holds : List ℕ) (i : ℕ) {before : ℕ} {h : Hold} (b : before ≡ rankBefore holds i) (e : h ≡ holdAt holds i) where
+  here : isHold first lines (rankBefore holds i) (holdAt holds i) ≡ isHold first lines before h
+  here = sym (ap₂ (isHold first lines) b e)
 
-  pub disordered : i < length holds / 3 → isHold lines before h ≡ false → Disordered ≡ orderOf lines holds
+  pub disordered : i < length holds / 3 → isHold first lines before h ≡ false → Disordered ≡ orderOf first lines holds
   unfolding areOrdered
   disordered l w =
-      simp (all-not (λ k. isHold lines (lineBefore holds k) (holdAt holds k)) (length holds / 3) i l (here ∙ w), and-false)
+      simp (all-not (λ k. isHold first lines (rankBefore holds k) (holdAt holds k)) (length holds / 3) i l (here ∙ w), and-false)
 
-  pub one-more : all i (λ k. isHold lines (lineBefore holds k) (holdAt holds k)) ≡ true → isHold lines before h ≡ true →
-      all (i + 1) (λ k. isHold lines (lineBefore holds k) (holdAt holds k)) ≡ true
+  pub one-more : all i (λ k. isHold first lines (rankBefore holds k) (holdAt holds k)) ≡ true → isHold first lines before h ≡ true →
+      all (i + 1) (λ k. isHold first lines (rankBefore holds k) (holdAt holds k)) ≡ true
   one-more a w = all-more _ i a (here ∙ w)
 
-  pub line-next : h .line ≡ lineBefore holds (i + 1)
-  line-next = rw add-one (ap (λ (h : Hold). h .line) e)
+  pub rank-next : rankOf h ≡ rankBefore holds (i + 1)
+  rank-next = rw add-one (ap rankOf e)
 
 -- What the test of a hold says.
-pub record HoldIn (lines before : ℕ) (h : Hold) : Type 0 where
-  pub after : before < h .line
+pub record HoldIn (first lines before : ℕ) (h : Hold) : Type 0 where
+  pub after : before < rankOf h
   pub within : h .line < lines
-  pub bit : h .value ≤ 1
+  pub few : h .value ≤ 5
+  pub gate : (leb (h .value) 1 || leb first (h .line)) ≡ true
 
-pub hold-in : (lines before : ℕ) (h : Hold) → isHold lines before h ≡ true → HoldIn lines before h
-hold-in lines before h e =
-    let a = ltb before (h .line) in
+pub hold-in : (first lines before : ℕ) (h : Hold) → isHold first lines before h ≡ true → HoldIn first lines before h
+hold-in first lines before h e =
+    let a = ltb before (rankOf h) in
     let b = ltb (h .line) lines in
-    let c = leb (h .value) 1 in
-    let l = and-left (a && b) c e in
-    record { after = ltb-true _ _ (and-left a b l); within = ltb-true _ _ (and-right a b l); bit = leb-true _ _ (and-right (a && b) c e) }
+    let c = leb (h .value) 5 in
+    let d = leb (h .value) 1 || leb first (h .line) in
+    let l = and-left (a && b && c) d e in
+    let m = and-left (a && b) c l in
+    record {
+      after = ltb-true _ _ (and-left a b m);
+      within = ltb-true _ _ (and-right a b m);
+      few = leb-true _ _ (and-right (a && b) c l);
+      gate = and-right (a && b && c) d e;
+    }
 
-pub holds-at : (lines : ℕ) (holds : List ℕ) → areHolds lines holds ≡ true → (i : ℕ) → i < length holds / 3 →
-    HoldIn lines (lineBefore holds i) (holdAt holds i)
-holds-at lines holds e i h =
-    hold-in _ _ _ (all-at (λ k. isHold lines (lineBefore holds k) (holdAt holds k)) (length holds / 3) e i h)
+pub holds-at : (first lines : ℕ) (holds : List ℕ) → areHolds first lines holds ≡ true → (i : ℕ) → i < length holds / 3 →
+    HoldIn first lines (rankBefore holds i) (holdAt holds i)
+holds-at first lines holds e i h =
+    hold-in _ _ _ _ (all-at (λ k. isHold first lines (rankBefore holds k) (holdAt holds k)) (length holds / 3) e i h)

@@ -1,12 +1,12 @@
 -- Questions 13 and 14, about what a netlist is run with.
-use Prim.Native.Nat.{ℕ, zero, suc, _*_, _/_, _%_}
-use mathlib.Core.Bool.{Bool, _&&_, cond}
+use Prim.Native.Nat.{ℕ, zero, suc, _+_, _*_, _/_, _%_}
+use mathlib.Core.Bool.{Bool, _&&_, _||_, cond}
 use mathlib.Core.List.{List}
 use lib.Dec.{leb, ltb, eqb}
 use lib.ListN.{length, getD}
 use Rattle.fields.specs.Bounded.{all}
 use Rattle.netlist.specs.declared.Hold.{Hold}
-use Rattle.netlist.specs.Netlist.{holdAt}
+use Rattle.netlist.specs.Netlist.{holdAt, siteOf}
 use Rattle.drive.specs.declared.Rails.{Rails}
 use Rattle.drive.specs.declared.Rails.the-variants.{Driven, Undriven}
 use Rattle.drive.specs.declared.Holds.{Holds}
@@ -23,24 +23,31 @@ abbrev pub railsNumber : Rails → ℕ
 railsNumber Driven = 0
 railsNumber Undriven = 13
 
--- The line of the hold before hold i; the first comes after line 1.
-abbrev pub lineBefore : List ℕ → ℕ → ℕ
-lineBefore holds zero = 1
-lineBefore holds (suc i) = holdAt holds i .line
+-- Where a hold stands in a hold list: lines first, rising, then pins by rising gate, the first before the second.
+abbrev pub rankOf : Hold → ℕ
+rankOf h = cond (leb (h .value) 1) (h .line) (65536 + 2 * h .line + siteOf h)
 
--- A hold on a netlist of so many lines, after a hold on line before.
-abbrev pub isHold : ℕ → ℕ → Hold → Bool
-isHold lines before hold = ltb before (hold .line) && ltb (hold .line) lines && leb (hold .value) 1
+-- The rank of the hold before hold i; the first comes after line 1.
+abbrev pub rankBefore : List ℕ → ℕ → ℕ
+rankBefore holds zero = 1
+rankBefore holds (suc i) = rankOf (holdAt holds i)
 
-abbrev pub areHolds : ℕ → List ℕ → Bool
-areHolds lines holds = all (length holds / 3) (λ i. isHold lines (lineBefore holds i) (holdAt holds i))
+-- A hold on a netlist of so many lines, whose first gate is line first, after a hold of rank before: value 0 or 1 holds a line, 2 to 5
+-- a pin, which is never a rail's.
+abbrev pub isHold : ℕ → ℕ → ℕ → Hold → Bool
+isHold first lines before hold =
+    ltb before (rankOf hold) && ltb (hold .line) lines && leb (hold .value) 5 && (leb (hold .value) 1 || leb first (hold .line))
 
--- 14. Are the holds whole, each naming a line from 2 up that is in the netlist, with value 0 or 1, lines strictly rising? No: 14.
-unfoldable pub areOrdered : ℕ → List ℕ → Bool
-areOrdered lines holds = eqb (length holds % 3) 0 && areHolds lines holds
+abbrev pub areHolds : ℕ → ℕ → List ℕ → Bool
+areHolds first lines holds = all (length holds / 3) (λ i. isHold first lines (rankBefore holds i) (holdAt holds i))
 
-abbrev pub orderOf : ℕ → List ℕ → Holds
-orderOf lines holds = cond (areOrdered lines holds) Ordered Disordered
+-- 14. Are the holds whole, each naming a line from 2 up that is in the netlist, or a pin of a gate that is, line holds first, rising, then
+-- pins by rising gate, first before second, each pin once and never of a rail? No: 14.
+unfoldable pub areOrdered : ℕ → ℕ → List ℕ → Bool
+areOrdered first lines holds = eqb (length holds % 3) 0 && areHolds first lines holds
+
+abbrev pub orderOf : ℕ → ℕ → List ℕ → Holds
+orderOf first lines holds = cond (areOrdered first lines holds) Ordered Disordered
 
 abbrev pub holdsNumber : Holds → ℕ
 holdsNumber Ordered = 0

@@ -1,7 +1,8 @@
 // Questions 13 and 14, about what a netlist is run with.
+use netlist::Hold;
 ghost use mathlib.Core.Path.{_≡_};
 ghost use Prim.Native.Nat.{_≤_};
-ghost use Rattle.drive.specs.Questions.{railsOf, orderOf};
+ghost use Rattle.drive.specs.Questions.{railsOf, rankOf, isHold, orderOf};
 
 // Question 13's answer.
 pub enum Rails {
@@ -31,10 +32,41 @@ pub fn ask_rails(n: usize, rails: &[u8]) -> Rails
     Rails::Driven
 }
 
-// Question 14: are the holds whole, each naming a line from 2 up that is in the netlist, with value 0 or 1, lines strictly
-// rising?
-pub fn ask_holds(lines: usize, holds: &[u8]) -> Holds
-    ensures { λ r. ⌜ r ≡ orderOf lines (now (holds .entry)) ⌝ }
+// Where a hold stands in a hold list: lines first, rising, then pins by rising gate, the first before the second.
+pub fn rank(hold: Hold) -> usize
+    ensures { λ r. ⌜ r ≡ rankOf hold ⌝ }
+{
+    if hold.value <= 1 {
+        hold.line as usize
+    } else {
+        65536 + 2 * (hold.line as usize) + (hold.value / 2) as usize
+    }
+}
+
+// Whether a hold, after one of rank before, names a line or a pin of a gate, which begin at line first.
+fn is_hold(first: usize, lines: usize, before: usize, hold: Hold) -> bool
+    ensures { λ r. ⌜ r ≡ isHold first lines before hold ⌝ }
+{
+    if rank(hold) <= before {
+        return false;
+    }
+    let line = hold.line as usize;
+    if lines <= line {
+        return false;
+    }
+    if 5 < hold.value {
+        return false;
+    }
+    if hold.value <= 1 {
+        return true;
+    }
+    first <= line
+}
+
+// Question 14: are the holds whole, each naming a line from 2 up that is in the netlist, or a pin of a gate that is, line holds first,
+// rising, then pins by rising gate, first before second, each pin once and never of a rail?
+pub fn ask_holds(first: usize, lines: usize, holds: &[u8]) -> Holds
+    ensures { λ r. ⌜ r ≡ orderOf first lines (now (holds .entry)) ⌝ }
 {
     if holds.len() % 3 != 0 {
         return Holds::Disordered;
@@ -42,16 +74,10 @@ pub fn ask_holds(lines: usize, holds: &[u8]) -> Holds
     let mut last = 1;
     for i in 0..holds.len() / 3 {
         let hold = netlist::hold_at(holds, i);
-        if hold.line <= last {
+        if !is_hold(first, lines, last, hold) {
             return Holds::Disordered;
         }
-        if lines <= hold.line as usize {
-            return Holds::Disordered;
-        }
-        if 1 < hold.value {
-            return Holds::Disordered;
-        }
-        last = hold.line;
+        last = rank(hold);
     }
     Holds::Ordered
 }

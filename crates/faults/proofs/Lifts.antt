@@ -1,4 +1,4 @@
--- A stuck line that spoils an entry of a block spoils one of each larger block.
+-- A fault that spoils an entry of a block spoils one of each larger block.
 use Prim.Native.Nat.{ℕ, _+_, _<_}
 use native.Mathlib.Nat.{add-assoc}
 use native.Mathlib.Omega.{arith}
@@ -20,7 +20,7 @@ use Rattle.rules.proofs.BlockDown.{block-down}
 use Rattle.rules.proofs.BlockUp.{block-up}
 use Rattle.faults.proofs.Hits.{Hit, EachOf, hit-append}
 use Rattle.faults.proofs.Routes.{nodeAt, node-more, node-in}
-use Rattle.faults.proofs.Shown.{entryOf, Spoils}
+use Rattle.faults.proofs.Shown.{entryOf, Low, High, Spoils}
 
 -- The line after the gates of a block that is made from line next on.
 abbrev pub after : Diagram → Cut → ℕ → ℕ → ℕ
@@ -54,8 +54,7 @@ module _ (d : Diagram) (a b : Cut) (l next : ℕ) where
   unfolding block _>>=_
   hit-parts h = ⊎-elim inl (λ h. inr (hit-append (block d b (l + size a) mid .0) _ h)) (hit-append (block d a l next .0) _ h)
 
-module _ (d : Diagram) (ranged : inRange d ≡ true) (y : ℕ) (a b : Cut) (left l next : ℕ)
-    (total : l + size (two a b) + left ≡ d .contacts) where
+module _ (d : Diagram) (ranged : inRange d ≡ true) (a b : Cut) (left l next : ℕ) (total : l + size (two a b) + left ≡ d .contacts) where
   module _ (x : Input) (j : ℕ) (named : j < d .outputs) (ν : ℕ → ℕ) where
     -- If the entry on the path shows 1, so do the entries on the path in the two parts.
     down : RailsDown (d .contacts) x ν → EachOf (block d (two a b) l) next (Down ν) →
@@ -86,48 +85,54 @@ module _ (d : Diagram) (ranged : inRange d ≡ true) (y : ℕ) (a b : Cut) (left
         product-up ν _ _ _ _ _ .result (top d a b l next) (parts d a b l next e .2) _ v
         (node-in d x j ranged named l (omega arith)) hv (w, hw, p, q)
 
+  module _ (H : (ℕ → ℕ) → Type 0) where
+    pub low-left : Low d H a l next → Low d H (two a b) l next
+    low-left (j, hj, x, low) = (j, hj, x, λ ν rails e o r. low ν rails (parts d a b l next e .0) o (down x j hj ν rails e r .0))
+
+    pub low-right : Low d H b (l + size a) (after d a l next) → Low d H (two a b) l next
+    low-right (j, hj, x, low) = (j, hj, x, λ ν rails e o r. low ν rails (parts d a b l next e .1) o (down x j hj ν rails e r .1))
+
+    pub high-left : High d H a (size b + left) l next → High d H (two a b) left l next
+    high-left (j, hj, x, w, hw, wrong, high) =
+        let v = path d x (size b) (l + size a) w in
+        let hv = path-in d ranged x (size b) (l + size a) w (omega arith) hw in
+        rw (← add-assoc l (size a) (size b)) (
+          j,
+          hj,
+          x,
+          v,
+          hv,
+          λ p. wrong (path-more d x (size b) left (l + size a) w ∙ p),
+          λ ν rails e o.
+              let (ea, eb, _) = parts d a b l next e in
+              let on = block-up d ranged x ν rails b (l + size a) (omega arith) .result (after d a l next) eb w hw in
+              up x j hj ν e w v hw hv (high ν rails ea o) on,
+        )
+
+    pub high-right : High d H b left (l + size a) (after d a l next) → High d H (two a b) left l next
+    high-right (j, hj, x, v, hv, wrong, high) =
+        let hu = node-in d x j ranged hj l (omega arith) in
+        let hw = node-in d x j ranged hj (l + size a) (omega arith) in
+        rw (← add-assoc l (size a) (size b)) (
+          j,
+          hj,
+          x,
+          v,
+          hv,
+          wrong,
+          λ ν rails e o.
+              let (ea, eb, _) = parts d a b l next e in
+              let on = block-up d ranged x ν rails a l (omega arith) .result next ea (nodeAt d x j l) hu in
+              up x j hj ν e (nodeAt d x j (l + size a)) v hw hv (rw (node-more d x j (size a) l) at on) (high ν rails eb o),
+        )
+
+-- Of a stuck line.
+module _ (d : Diagram) (ranged : inRange d ≡ true) (y : ℕ) (a b : Cut) (left l next : ℕ)
+    (total : l + size (two a b) + left ≡ d .contacts) where
   pub shown-left : Spoils d y a (size b + left) l next → Spoils d y (two a b) left l next
   shown-left s =
-      let (i, hi, z, low) = s .low in
-      let (j, hj, x, w, hw, wrong, high) = s .high in
-      let v = path d x (size b) (l + size a) w in
-      let hv = path-in d ranged x (size b) (l + size a) w (omega arith) hw in
-      record {
-        low = (i, hi, z, λ ν rails e o r. low ν rails (parts d a b l next e .0) o (down z i hi ν rails e r .0));
-        high =
-            rw (← add-assoc l (size a) (size b)) (
-              j,
-              hj,
-              x,
-              v,
-              hv,
-              λ p. wrong (path-more d x (size b) left (l + size a) w ∙ p),
-              λ ν rails e o.
-                  let (ea, eb, _) = parts d a b l next e in
-                  let on = block-up d ranged x ν rails b (l + size a) (omega arith) .result (after d a l next) eb w hw in
-                  up x j hj ν e w v hw hv (high ν rails ea o) on,
-            );
-      }
+      record { low = low-left d ranged a b left l next total _ (s .low); high = high-left d ranged a b left l next total _ (s .high) }
 
   pub shown-right : Spoils d y b left (l + size a) (after d a l next) → Spoils d y (two a b) left l next
   shown-right s =
-      let (i, hi, z, low) = s .low in
-      let (j, hj, x, v, hv, wrong, high) = s .high in
-      let hu = node-in d x j ranged hj l (omega arith) in
-      let hw = node-in d x j ranged hj (l + size a) (omega arith) in
-      record {
-        low = (i, hi, z, λ ν rails e o r. low ν rails (parts d a b l next e .1) o (down z i hi ν rails e r .1));
-        high =
-            rw (← add-assoc l (size a) (size b)) (
-              j,
-              hj,
-              x,
-              v,
-              hv,
-              wrong,
-              λ ν rails e o.
-                  let (ea, eb, _) = parts d a b l next e in
-                  let on = block-up d ranged x ν rails a l (omega arith) .result next ea (nodeAt d x j l) hu in
-                  up x j hj ν e (nodeAt d x j (l + size a)) v hw hv (rw (node-more d x j (size a) l) at on) (high ν rails eb o),
-            );
-      }
+      record { low = low-right d ranged a b left l next total _ (s .low); high = high-right d ranged a b left l next total _ (s .high) }

@@ -1,6 +1,6 @@
 -- The paths behind an entry (u, v) of a block. One that is not never shows 1 if every line does, and some input leads from u to v;
 -- one that is not always shows 0 if every line does, and some input leads from u elsewhere.
-use Prim.Native.Nat.{ℕ, _+_, _*_, _<_}
+use Prim.Native.Nat.{ℕ, _+_, _*_, _≤_, _<_}
 use native.Mathlib.Decide.{ℕ-discrete}
 use native.Mathlib.Nat.{add-assoc}
 use native.Mathlib.Numerals.{add-one}
@@ -31,9 +31,9 @@ lit _ = 1
 abbrev pub dark : ℕ → ℕ
 dark _ = 0
 
-either : (b : Bool) (v : ℕ) → v ≡ cond b v v
-either true v = refl
-either false v = refl
+either : (b : Bool) (v : ℕ) → (v ≤ cond b v v) × (cond b v v ≤ v)
+either true v = (omega arith, omega arith)
+either false v = (omega arith, omega arith)
 
 module _ (next : ℕ) (gates : List Gate) where
   pub lit-down : Each (Down lit) next gates
@@ -41,7 +41,7 @@ module _ (next : ℕ) (gates : List Gate) where
       record {
         has = λ i _.
             let g = getD gates i anyGate in
-            made-down lit (next + i) g (omega arith) (omega arith) (either (eqb (g .kind) 0) 1);
+            made-down lit (next + i) g (omega arith) (omega arith) (either (eqb (g .kind) 0) 1 .0);
       }
 
   pub dark-up : Each (Up dark) next gates
@@ -49,7 +49,7 @@ module _ (next : ℕ) (gates : List Gate) where
       record {
         has = λ i _.
             let g = getD gates i anyGate in
-            made-up dark (next + i) g (omega arith) (omega arith) (either (eqb (g .kind) 0) 0);
+            made-up dark (next + i) g (omega arith) (either (eqb (g .kind) 0) 0 .1);
       }
 
 -- An input leads from node u of level l to node v, k levels on; an input leads elsewhere.

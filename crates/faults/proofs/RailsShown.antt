@@ -38,10 +38,10 @@ module _ (d : Diagram) (reduced : Reduced d) where
     level-shown t left next e =
         record {
           low =
-              low-on d reduced (railOf l t) one l next u v (omega arith) hu 1 0 v (omega arith) (λ _. t) (λ _. t) refl refl
+              low-on d reduced (λ ν. ν (railOf l t) ≡ 0) one l next u v (omega arith) hu 1 0 v (omega arith) (λ _. t) (λ _. t) refl refl
               (λ x ν _ _ _ o shown. let shown : ν (railOf l t) ≡ 1 = rw entry at shown in omega arith);
           high =
-              high-on d reduced (railOf l t) one l next u v (omega arith) hu left e (rw (add-one l) hv) (λ _. not t)
+              high-on d reduced (λ ν. ν (railOf l t) ≡ 1) one l next u v (omega arith) hu left e (rw (add-one l) hv) (λ _. not t)
               (elsewhere t) (λ ν _ o. rw entry o);
         }
       where

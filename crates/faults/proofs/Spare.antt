@@ -18,7 +18,7 @@ use Rattle.table.specs.Table.{diagramIn}
 use Rattle.table.proofs.Accepted.{accepted}
 use Rattle.rules.specs.Board.{boardOf}
 use Rattle.rules.proofs.Codes.{code-length}
-use Rattle.rules.proofs.Held.{shown, run-model}
+use Rattle.rules.proofs.Held.{shown, one-way-run, run-model}
 use Rattle.rules.proofs.Makes.{anyGate}
 use Rattle.rules.proofs.Models.{codeOf}
 use Rattle.rules.proofs.Pairs.{pair, pairs-length, pairs-at}
@@ -27,7 +27,7 @@ use Rattle.rules.proofs.Wired.{board-wired, entry-wired}
 use Rattle.faults.specs.Betrayal.{stuckAt}
 use Rattle.faults.specs.Spare.{GatesRead, SpareContacts, UnreadUnseen}
 use Rattle.faults.proofs.Betrayed.{shows-by}
-use Rattle.faults.proofs.HeldLines.{one-way-run, held-shows}
+use Rattle.faults.proofs.HeldLines.{held-shows}
 use Rattle.faults.proofs.NoUnseen.{Betrayed, no-unseen-gate, no-unseen-rail}
 use Rattle.faults.proofs.RailsShown.{railOf}
 use Rattle.faults.proofs.ReadRails.{read-used}

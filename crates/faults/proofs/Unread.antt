@@ -39,7 +39,7 @@ module _ (net : Netlist) (wired : Wired net) (rails : List ℕ) (count : length 
 
   rail-same : (i : ℕ) → i < 2 * net .contacts → Same (2 + i)
   unfolding held
-  rail-same i l ne = with-hold .rail i l ∙ held-elsewhere (h ∷ []) (2 + i) _ (ne, tt) ∙ sym (without .rail i l)
+  rail-same i l ne = with-hold .rail i l ∙ held-elsewhere (h ∷ []) (2 + i) 0 _ (ne, tt) ∙ sym (without .rail i l)
 
   gate-same : (g : ℕ) → g < length (net .gates) → ((y : ℕ) → y < first + g → Same y) → Same (first + g)
   unfolding held
@@ -47,7 +47,9 @@ module _ (net : Netlist) (wired : Wired net) (rails : List ℕ) (count : length 
       let (left, right) = gate-elsewhere net (h .line) anyGate (record { on = 0; off = 0 }) unread g l in
       let o = wired g anyGate l in
       with-hold .gate g anyGate l
-      ∙ held-elsewhere (h ∷ []) (first + g) _ (ne, tt)
+      ∙ held-elsewhere (h ∷ []) (first + g) 0 _ (ne, tt)
+      ∙ ap₂ (gateOf (getD (net .gates) g anyGate .kind)) (held-elsewhere (h ∷ []) (first + g) 1 _ (ne, tt))
+      (held-elsewhere (h ∷ []) (first + g) 2 _ (ne, tt))
       ∙ ap₂ (gateOf (getD (net .gates) g anyGate .kind)) (below _ (o .left) (λ e. left (sym e)))
       (below _ (o .right) (λ e. right (sym e)))
       ∙ sym (without .gate g anyGate l)

@@ -1,4 +1,4 @@
--- Stuck lines: what a board shows with one line held, and the smallest code input that betrays it.
+-- Stuck lines and pins: what a board shows with one of them held, and the smallest code input that betrays it.
 use Prim.Native.Nat.{ℕ, _^_}
 use mathlib.Core.Bool.{Bool}
 use mathlib.Core.List.{List, [], _∷_}
@@ -12,7 +12,7 @@ use Rattle.netlist.specs.Netlist.{Netlist}
 use Rattle.simulation.specs.Run.{valuesOf}
 use Rattle.rules.specs.Code.{codeRails}
 
--- Every line's value at input number a with one line held.
+-- Every line's value at input number a with one line or pin held.
 unfoldable pub stuckAt : Netlist → Hold → ℕ → List ℕ
 stuckAt net h a = valuesOf net (codeRails (net .contacts) (inputOf a)) (h ∷ [])
 
@@ -29,10 +29,13 @@ someNoCode pairs vs = any (length pairs) (noCode pairs vs)
 abbrev pub lowestNoCode : List Pair → List ℕ → ℕ
 lowestNoCode pairs vs = least (length pairs) (noCode pairs vs)
 
--- A line held at a value is betrayed at a code input exactly if some pair there is 00 or 11.
+-- A line or pin held at a value is betrayed at a code input exactly if some pair there is 00 or 11.
 unfoldable pub betrays : Netlist → Hold → ℕ → Bool
 betrays net h a = someNoCode (net .pairs) (stuckAt net h a)
 
--- The smallest code input that betrays a held line.
+-- Whether some code input betrays a held line or pin, and the smallest that does.
+unfoldable pub isSeen : Netlist → Hold → Bool
+isSeen net h = any (2 ^ net .contacts) (betrays net h)
+
 abbrev pub smallestInput : Netlist → Hold → ℕ
 smallestInput net h = least (2 ^ net .contacts) (betrays net h)

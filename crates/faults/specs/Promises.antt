@@ -6,7 +6,7 @@ use mathlib.Core.List.{List}
 use mathlib.Core.Logic.{_⊎_}
 use lib.ListN.{length, getD}
 use Rattle.diagram.specs.Diagram.{Input, valueAt}
-use Rattle.netlist.specs.Netlist.{Netlist, holdAt, holdsOf, lineCount, isRead, fileOf}
+use Rattle.netlist.specs.Netlist.{Netlist, holdAt, levelOf, holdsOf, gateLine, lineCount, isRead, fileOf}
 use Rattle.simulation.specs.Run.{valuesOf, shownBy}
 use Rattle.drive.specs.Questions.{areOrdered}
 use Rattle.simulation.specs.Service.{runRefusal, runOf}
@@ -27,13 +27,14 @@ ShowsRight table x values j =
     let value = valueAt (diagramIn table) x j in
     Shows (tableBoard table) values j value (1 - value)
 
--- A hold list under question 14, all of whose values are b.
+-- A hold list under question 14, of lines and pins, all of which are held at b.
 abbrev pub OneWay : Netlist → List ℕ → ℕ → Type 0
 OneWay net holds b =
-    (areOrdered (lineCount net) holds ≡ true) × ((i : ℕ) → i < length (holdsOf holds) → holdAt holds i .value ≡ b)
+    (areOrdered (gateLine (net .contacts)) (lineCount net) holds ≡ true)
+    × ((i : ℕ) → i < length (holdsOf holds) → levelOf (holdAt holds i) ≡ b)
 
--- Whichever lines of a board built from an accepted table are held, all at 0 or all at 1, and whatever the code input: each pair
--- shows the right code, or 00 for lines held at 0, or 11 for lines held at 1.
+-- Whichever lines and pins of a board built from an accepted table are held, all at 0 or all at 1, and whatever the code input: each
+-- pair shows the right code, or 00 for holds at 0, or 11 for holds at 1.
 abbrev pub NoWrongCode : Type 0
 NoWrongCode =
     (table : List ℕ) → Accepted table → (b : ℕ) → b ≤ 1 → (holds : List ℕ) → OneWay (tableBoard table) holds b →

@@ -10,7 +10,7 @@ use lib.ListN.{getD}
 use Rattle.fields.proofs.Every.{every-weaken}
 use Rattle.netlist.specs.declared.Hold.{Hold}
 use Rattle.netlist.specs.declared.Pair.{Pair}
-use Rattle.netlist.specs.Netlist.{Netlist}
+use Rattle.netlist.specs.Netlist.{Netlist, levelOf}
 use Rattle.simulation.proofs.Monotone.{AllHeld, lines-lower, lines-higher, lines-bits}
 use Rattle.rules.proofs.Held.{shown}
 use Rattle.lamp.proofs.Joins.{isCode}
@@ -45,7 +45,7 @@ module _ (net : Netlist) (rails : List ℕ) (bits : (i : ℕ) → getD rails i 0
   code-same (suc zero) h all p code =
       let bit =
       lines-bits net rails holds bits
-      (every-weaken (λ (k : Hold). k .value ≡ 1) (λ k. k .value ≤ 1) (λ k e. omega arith) holds all) in
+      (every-weaken (λ (k : Hold). levelOf k ≡ 1) (λ k. levelOf k ≤ 1) (λ k e. omega arith) holds all) in
       let higher = lines-higher net rails holds bits all in
       high-same _ _ _ _ (bit (p .on)) (bit (p .off)) (eqb-false _ _ (not-true _ code)) (higher (p .on)) (higher (p .off))
   code-same (suc (suc b)) h all p code = absurd (omega arith)

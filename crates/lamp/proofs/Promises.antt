@@ -10,7 +10,7 @@ use Rattle.fields.proofs.Bounded.{all-agree}
 use Rattle.table.specs.Promises.{Accepted}
 use Rattle.table.specs.Table.{diagramIn}
 use Rattle.netlist.specs.declared.Gate.{Gate}
-use Rattle.netlist.specs.Netlist.{Netlist, lineCount, holdsOf, netWith, fileOf}
+use Rattle.netlist.specs.Netlist.{Netlist, gateLine, lineCount, levelOf, holdsOf, netWith, fileOf}
 use Rattle.netlist.proofs.Sound.{Bounds, PairsWired, LampWired}
 use Rattle.wiring.proofs.Files.{reads-back, file-determines, file-accepted}
 use Rattle.simulation.specs.Run.{valuesOf}
@@ -24,7 +24,7 @@ use Rattle.rules.proofs.Models.{codeOf}
 use Rattle.rules.proofs.Pairs.{pair}
 use Rattle.rules.proofs.Promises.{within-formulas, different-netlists}
 use Rattle.faults.proofs.Betrayed.{seen}
-use Rattle.faults.proofs.HeldLines.{all-holds, holds-in}
+use Rattle.faults.proofs.HeldLines.{all-holds, levels, holds-in}
 use Rattle.faults.proofs.ReadRails.{read-used}
 use Rattle.lamp.specs.Promises.{PlainFirst, LampFormulas, LampFilesPass, DifferentLampNetlists, LampRightCode, LampCode, LampNoWrongCode, LampShowsStuckLine}
 use Rattle.lamp.proofs.Boards.{taken, some, outputs, some-pairs, wired, pairs, board-code, pair-right, pair-code, free-code, output-at, lamp-at}
@@ -103,10 +103,10 @@ pub lamp-is-code : LampCode
 lamp-is-code table yes! rails holds rails-yes holds-yes =
     let d = diagramIn table in
     let vs = valuesOf (lampBoard table) rails (holdsOf holds) in
-    let (bits, lines) = holds-in (lineCount (tableBoard table)) holds holds-yes in
+    let lines = holds-in (gateLine (d .contacts)) (lineCount (tableBoard table)) holds holds-yes in
     code-at (lamp-at table yes! vs)
     ∙ board-code table yes! rails (driven (d .contacts) rails rails-yes) (driven-bits (d .contacts) rails rails-yes)
-    (holdsOf holds) bits lines
+    (holdsOf holds) (levels (holdsOf holds)) lines
     ∙ sym (all-agree (d .outputs) _ _ (λ j h. code-at (output-at table yes! vs j h)))
 
 pub lamp-no-wrong-code : LampNoWrongCode
@@ -116,7 +116,7 @@ lamp-no-wrong-code table yes! b bound holds (ordered, way) x =
     let values = valuesOf with rails (holdsOf holds) in
     let free = free-code table yes! x in
     let lamp = lamp-at table yes! (valuesOf with rails []) in
-    let all = all-holds (λ h. h .value ≡ b) holds way in
+    let all = all-holds (λ h. levelOf h ≡ b) holds way in
     let same = code-same with rails (code-bits x (with .contacts)) (holdsOf holds) b bound all in (
       code-at lamp ∙ free,
       ⊎-map (λ (p, q). shows-by (lamp-at table yes! values) (p ∙ sym (lamp .on)) (q ∙ sym (lamp .off)))

@@ -10,7 +10,7 @@ use lib.Seq.{getD-append-add}
 use Rattle.netlist.specs.declared.Pair.{Pair}
 use Rattle.netlist.specs.Netlist.{Netlist}
 use Rattle.simulation.specs.Run.{shownOf, shownBy}
-use Rattle.simulation.proofs.Turns.{length-shown}
+use Rattle.simulation.proofs.Shown.{length-shown}
 use Rattle.rules.specs.Lamp.{noPair, lampOf, withLamp}
 use Rattle.rules.proofs.Shown.{shows-on, shows-off, output-on, output-off}
 use Rattle.faults.specs.Promises.{Shows}

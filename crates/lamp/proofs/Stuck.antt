@@ -1,7 +1,7 @@
 -- One line of a board held at a value: where some output's pair shows this value twice, so does the lamp.
 use Prim.Native.Nat.{ℕ, _≤_, _<_}
 use native.Mathlib.Omega.{arith}
-use mathlib.Core.Path.{_≡_, refl, sym, ap, ap₂, _∙_}
+use mathlib.Core.Path.{_≡_, sym, ap, ap₂, _∙_}
 use mathlib.Core.Bool.{true, false, not}
 use mathlib.Core.List.{List, [], _∷_}
 use mathlib.Core.Logic.{⊎-elim}
@@ -56,7 +56,7 @@ module _ (table : List ℕ) (yes! : Accepted table) (h : Hold) (bound : h .value
     unfolding withLamp boardOf
     no-code =
         board-code table yes! rails (code-length (inputOf a) (plain .contacts)) (code-bits (inputOf a) (plain .contacts))
-        (h ∷ []) (bound, tt) (inside, tt)
+        (h ∷ []) (omega arith, tt) (inside, tt)
         ∙ all-not _ (diagramIn table .outputs) j l (ap not (eq-eqb _ _ (on-held ∙ sym off-held)))
 
     lamp-held : (stuck (lampOf plain .1 .on) ≡ h .value) × (stuck (lampOf plain .1 .off) ≡ h .value)
@@ -67,7 +67,7 @@ module _ (table : List ℕ) (yes! : Accepted table) (h : Hold) (bound : h .value
         let code : false ≡ true = sym no-code ∙ ap₂ (λ (u v : ℕ). not (eqb u v)) p q ∙ free in
         absurd (let z : _≡_ {A = ℕ} 0 1 = cc in omega arith))
         (λ both. both)
-        (code-same (lampBoard table) rails (code-bits (inputOf a) _) (h ∷ []) (h .value) bound (refl, tt)
+        (code-same (lampBoard table) rails (code-bits (inputOf a) _) (h ∷ []) (h .value) bound (omega arith, tt)
         (lampOf plain .1) free)
 
     pub both-shown :

@@ -12,7 +12,7 @@ use Rattle.fields.specs.Fields.{Bytes, withoutNotes}
 use Rattle.diagram.specs.Diagram.{Input, valueAt}
 use Rattle.table.specs.Promises.{Accepted}
 use Rattle.table.specs.Table.{diagramIn}
-use Rattle.netlist.specs.Netlist.{holdsOf, lineCount, isRead, fileOf}
+use Rattle.netlist.specs.Netlist.{holdsOf, gateLine, lineCount, isRead, fileOf}
 use Rattle.wiring.specs.Questions.{netlistIn, netlistRefusal}
 use Rattle.drive.specs.declared.Rails.the-variants.{Driven}
 use Rattle.drive.specs.Questions.{railsOf, areOrdered}
@@ -74,18 +74,19 @@ LampRightCode =
     let net = lampBoard table in
     LampShowsRight table x (valuesOf net (codeRails (net .contacts) x) []) j
 
--- At any rails, with no line held that the lamp adds: the lamp is a code exactly if every permit pair is.
+-- At any rails, with none held of the lines that the lamp adds and of the pins of its gates: the lamp is a code exactly if every permit
+-- pair is.
 abbrev pub LampCode : Type 0
 LampCode =
     (table : List ℕ) → Accepted table → (rails holds : List ℕ) → railsOf (diagramIn table .contacts) rails ≡ Driven →
-    areOrdered (lineCount (tableBoard table)) holds ≡ true →
+    areOrdered (gateLine (diagramIn table .contacts)) (lineCount (tableBoard table)) holds ≡ true →
     let net = lampBoard table in
     let m = diagramIn table .outputs in
     let shown = shownBy net (valuesOf net rails (holdsOf holds)) in
     codeAt shown m ≡ all m (codeAt shown)
 
--- Whichever lines are held, all at 0 or all at 1, those that the lamp adds included, and whatever the code input: with none held the
--- lamp shows a code, and with them this code, or 00 for lines held at 0, or 11 for lines held at 1; each permit pair shows its right
+-- Whichever lines and pins are held, all at 0 or all at 1, those that the lamp adds included, and whatever the code input: with none
+-- held the lamp shows a code, and with them this code, or 00 for holds at 0, or 11 for holds at 1; each permit pair shows its right
 -- code or these.
 abbrev pub LampNoWrongCode : Type 0
 LampNoWrongCode =

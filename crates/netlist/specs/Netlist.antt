@@ -47,9 +47,16 @@ gateAt v g = record { kind = getD v (5 * g) 0; left = numberAt v (5 * g + 1); ri
 abbrev pub pairAt : List ℕ → ℕ → Pair
 pairAt v j = record { on = numberAt v (4 * j); off = numberAt v (4 * j + 2) }
 
--- Hold i: a line, then its value.
+-- Hold i: a line, then its value byte.
 abbrev pub holdAt : List ℕ → ℕ → Hold
 holdAt v i = record { line = numberAt v (3 * i); value = getD v (3 * i + 2) 0 }
+
+-- What a hold holds, and at which value: site 0 is its line, sites 1 and 2 are the first and the second pin of its line's gate.
+abbrev pub siteOf : Hold → ℕ
+siteOf h = h .value / 2
+
+abbrev pub levelOf : Hold → ℕ
+levelOf h = h .value % 2
 
 unfoldable pub gatesOf : List ℕ → List Gate
 gatesOf v = listed (gateAt v) (length v / 5) 0

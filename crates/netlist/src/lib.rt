@@ -25,7 +25,7 @@ pub struct Pair {
     pub off: u16,
 }
 
-// A stuck line: a line held at a value.
+// A stuck line or pin: value 0 or 1 holds the line at it, 2 or 3 the first pin of its gate at 0 or 1, 4 or 5 the second.
 pub struct Hold {
     pub line: u16,
     pub value: u8,

@@ -46,7 +46,7 @@ pub extern "C" fn pilgodur_read_off(table: &[u8], input: u32) -> Reading
     table::read_off(table, input)
 }
 
-// Runs a netlist with lines held: questions 11 to 14, then 9 for either buffer.
+// Runs a netlist with lines and pins held: questions 11 to 14, then 9 for either buffer.
 #[no_mangle]
 pub extern "C" fn pilgodur_run(
     netlist: &[u8],
@@ -58,10 +58,10 @@ pub extern "C" fn pilgodur_run(
     ensures { λ r. ⌜ record { refusal = r; lines = now (lines .exit); pairs = now (pairs .exit) }
         ≡ runOf (now (netlist .entry)) (now (rails .entry)) (now (holds .entry)) (now (lines .entry)) (now (pairs .entry)) ⌝ }
 {
-    simulation::run(netlist, rails, holds, lines, pairs)
+    run::run(netlist, rails, holds, lines, pairs)
 }
 
-// Probes a stuck line: questions 1 to 7, 14, 15, then 9.
+// Probes a stuck line or pin: questions 1 to 7, 14, 15, then 9.
 #[no_mangle]
 pub extern "C" fn pilgodur_probe(table: &[u8], hold: &[u8], buffer: &mut [u8]) -> Probed
     ensures { λ r. ⌜ record { answer = r; buffer = now (buffer .exit) }

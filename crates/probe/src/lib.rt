@@ -1,4 +1,4 @@
-// The service probe: the smallest input that betrays a stuck line.
+// The service probe: the smallest input that betrays a stuck line or pin.
 mod service;
 
 pub use service::probe;

@@ -2,6 +2,7 @@
 use diagram::Diagram;
 use drive::Holds;
 use files::Room;
+use search::Found;
 use stuck::Fanout;
 use stuck::Probed;
 ghost use mathlib.Core.Path.{_≡_};
@@ -16,9 +17,9 @@ ghost use Rattle.files.specs.Room.{over};
 ghost use Rattle.rules.specs.Board.{boardOf};
 ghost use Rattle.rules.specs.Code.{codeRails};
 ghost use Rattle.faults.specs.Betrayal.{stuckAt, someNoCode};
-ghost use Rattle.stuck.specs.Service.{foundAt, probingOf};
+ghost use Rattle.stuck.specs.Service.{foundAt, probingWith, probingOf};
 ghost use Rattle.stuck.specs.Inner.Probing.{probingOn};
-ghost use Rattle.stuck.specs.Inner.Findings.{RunReady, WriteReady, ProbeReady, FoundAndWritten, AcceptedDiagram};
+ghost use Rattle.stuck.specs.Inner.Findings.{RunReady, WriteReady, ProbeReady, AcceptedDiagram};
 
 // The rails of a code input, in line order from the start of the array.
 fn code_rails(n: usize, input: u32) -> [u8; 24]
@@ -35,7 +36,7 @@ fn code_rails(n: usize, input: u32) -> [u8; 24]
     rails
 }
 
-// Writes every line's value at a code input with a line held.
+// Writes every line's value at a code input with a line or pin held.
 fn show_at(gates: &[u8], n: usize, hold: &[u8], input: u32, lines: &mut [u8])
     requires { ⌜ RunReady n (now gates) (now hold) (length (now lines)) ⌝ }
     ensures { λ _. ⌜ now (lines .exit)
@@ -43,10 +44,11 @@ fn show_at(gates: &[u8], n: usize, hold: &[u8], input: u32, lines: &mut [u8])
 {
     let rails = code_rails(n, input);
     let count = 2 * n;
-    simulation::work_out(gates, &rails[..count], hold, lines);
+    evaluation::work_out(gates, &rails[..count], hold, lines);
 }
 
-// Writes the netlist's file and, behind it, every line's value at a code input with a line held, and returns where these start.
+// Writes the netlist's file and, behind it, every line's value at a code input with a line or pin held, and returns where these
+// start.
 fn write_at(
     gates: &[u8],
     pairs: &[u8],
@@ -86,14 +88,19 @@ fn name_output(pairs: &[u8], lines: &[u8], input: u32) -> Probed
     }
 }
 
-// Finds the smallest code input that betrays a held line, and writes the netlist's file and the line values there.
+// Finds the smallest code input that betrays a held line or pin, and writes the netlist's file and the line values there; at input 0
+// where no input does.
 fn find(gates: &[u8], pairs: &[u8], n: usize, hold: &[u8], buffer: &mut [u8]) -> Probed
     requires { ⌜ ProbeReady n (now gates) (now pairs) (now hold) (length (now buffer)) ⌝ }
-    ensures { λ r. ⌜ FoundAndWritten n (now (gates .entry)) (now (pairs .entry)) (now (hold .entry))
-        (now (buffer .entry)) r (now (buffer .exit)) ⌝ }
+    ensures { λ r. ⌜ record { answer = r; buffer = now (buffer .exit) }
+        ≡ probingWith (fileWith n (now (gates .entry)) (now (pairs .entry)) [])
+        (netOf n (now (gates .entry)) (now (pairs .entry))) (holdAt (now (hold .entry)) 0) (now (buffer .entry)) ⌝ }
 {
     let line = netlist::number_at(hold, 0) as usize;
-    let input = search::search(gates, pairs, n, line, hold[2]);
+    let Found::At(input) = search::search(gates, pairs, n, line, hold[2]) else {
+        write_at(gates, pairs, n, hold, 0, buffer);
+        return stuck::hidden();
+    };
     let start = write_at(gates, pairs, n, hold, input, buffer);
     let end = start + (2 + 2 * n + gates.len() / 5);
     name_output(pairs, &buffer[start..end], input)
@@ -108,8 +115,9 @@ fn probe_board(d: Diagram, hold: &[u8], buffer: &mut [u8], gates: &mut [u8]) -> 
     let n = d.contacts;
     let mut pairs = [0u8; 32];
     let made = synthesis::synthesise(d, gates, &mut pairs);
-    let lines = 2 + 2 * n + made;
-    let Holds::Ordered = stuck::ask_one_hold(lines, hold) else {
+    let first = 2 + 2 * n;
+    let lines = first + made;
+    let Holds::Ordered = stuck::ask_one_hold(first, lines, hold) else {
         return stuck::refused(14);
     };
     let line = netlist::number_at(hold, 0) as usize;
@@ -124,8 +132,9 @@ fn probe_board(d: Diagram, hold: &[u8], buffer: &mut [u8], gates: &mut [u8]) -> 
     find(&gates[..gate_bytes], &pairs[..pair_bytes], n, hold, buffer)
 }
 
-// The smallest code input at which a held line makes some pair 00 or 11, the lowest such output and the way it shows; the
-// buffer then holds the netlist's file and the line values at that input with the line held. A refusal leaves it as it came.
+// The smallest code input at which a held line or pin makes some pair 00 or 11, the lowest such output and the way it shows, or that
+// there is none; the buffer then holds the netlist's file and the line values at that input, or at input 0, with the line or pin
+// held. A refusal leaves it as it came.
 // The buffer for the gates is as long as the formula asks, in three lengths.
 pub fn probe(table: &[u8], hold: &[u8], buffer: &mut [u8]) -> Probed
     ensures { λ r. ⌜ record { answer = r; buffer = now (buffer .exit) }

@@ -1,22 +1,21 @@
 -- Valuations of a netlist's lines: what each line shows of what drives it.
-use Prim.Native.Nat.{ℕ, _+_, _*_, _-_, _≤_, _<_}
+use Prim.Native.Nat.{ℕ, zero, suc, _+_, _*_, _-_, _≤_, _<_}
 use native.Mathlib.Decide.{decLt}
 use native.Mathlib.Omega.{arith}
-use mathlib.Core.Path.{_≡_, sym, ap, _∙_}
-use mathlib.Core.Bool.{Bool, not}
+use mathlib.Core.Path.{_≡_, refl, ap}
+use mathlib.Core.Bool.{Bool, true, false, not}
 use mathlib.Core.List.{List}
-use mathlib.Core.Logic.{_⊎_, inl, ⊎-elim, by-cases}
+use mathlib.Core.Logic.{by-cases}
 use borrow.Author.Tests.{not-true}
 use lib.ListN.{getD}
 use Rattle.diagram.specs.Diagram.{bit, Input}
-use Rattle.diagram.proofs.Inputs.{bit-true}
 use Rattle.netlist.specs.declared.Gate.{Gate}
 use Rattle.netlist.specs.Netlist.{Netlist, gateLine, lineCount}
 use Rattle.simulation.specs.Run.{gateOf}
 use Rattle.rules.specs.Code.{codeRails}
 use Rattle.rules.proofs.Makes.{Each, each-weaken}
 use Rattle.rules.proofs.Codes.{code-on, code-off}
-use Rattle.rules.proofs.Valuations.{Down, Up, RailsDown, RailsUp, low-down, high-up, made-down, made-up}
+use Rattle.rules.proofs.Valuations.{Down, Up, RailsDown, RailsUp, made-down, made-up}
 
 -- Every gate of a netlist has P at its line.
 abbrev pub Gates : (ℕ → Gate → Type 0) → Netlist → Type 0
@@ -38,9 +37,23 @@ codeOf net x = codeRails (net .contacts) x
 abbrev pub Model : Netlist → Input → (ℕ → ℕ) → Type 0
 Model net x ν = Follows net (codeOf net x) ν (λ y made. ν y ≡ made)
 
--- At a code input with some lines held at b.
+-- What a line shows where it and its gate's pins may be held at b: with 0 at most what its driver makes of its sources' values, with 1
+-- at least that.
+abbrev pub Leans : ℕ → ℕ → ℕ → Type 0
+Leans zero made v = v ≤ made
+Leans (suc b) made v = made ≤ v
+
+-- At a code input with some lines and pins held at b.
 abbrev pub OneSided : Netlist → Input → ℕ → (ℕ → ℕ) → Type 0
-OneSided net x b ν = Follows net (codeOf net x) ν (λ y made. (ν y ≡ made) ⊎ (ν y ≡ b))
+OneSided net x b ν = Follows net (codeOf net x) ν (λ y made. Leans b made (ν y))
+
+leans-same : (b made v : ℕ) → v ≡ made → Leans b made v
+leans-same zero made v e = omega arith
+leans-same (suc b) made v e = omega arith
+
+bit-high : (t : Bool) → 1 ≤ bit t → t ≡ true
+bit-high true h = refl
+bit-high false h = absurd (omega arith)
 
 module _ {net : Netlist} {rails : List ℕ} {ν : ℕ → ℕ} {S : ℕ → ℕ → Type 0} where
   pub follows-weaken : {R : ℕ → ℕ → Type 0} → ((y made : ℕ) → S y made → R y made) → Follows net rails ν S → Follows net rails ν R
@@ -67,7 +80,7 @@ module _ {net : Netlist} {rails : List ℕ} {ν : ℕ → ℕ} {S : ℕ → ℕ 
 
 module _ {net : Netlist} (x : Input) {ν : ℕ → ℕ} where
   pub one-way : (b : ℕ) → Model net x ν → OneSided net x b ν
-  one-way b = follows-weaken (λ y made. inl)
+  one-way b = follows-weaken (λ y made. leans-same b made (ν y))
 
   module _ {S : ℕ → ℕ → Type 0} (f : Follows net (codeOf net x) ν S) (i : ℕ) (h : i < net .contacts) where
     on : S (2 + 2 * i) (bit (x i))
@@ -82,24 +95,24 @@ module _ {net : Netlist} (x : Input) {ν : ℕ → ℕ} where
   module _ (s : OneSided net x 0 ν) where
     pub gates-down : Gates (Down ν) net
     gates-down =
-        each-weaken (λ y g. ⊎-elim (made-down ν y g (s .bits (g .left)) (s .bits (g .right))) (low-down ν y g)) (s .gates)
+        each-weaken (λ y g. made-down ν y g (s .bits (g .left)) (s .bits (g .right))) (s .gates)
 
     pub rails-down : RailsDown (net .contacts) x ν
     rails-down =
         record {
-          on = λ i h e. ⊎-elim (λ p. bit-true (x i) (sym p ∙ e)) (λ p. absurd (omega arith)) (on s i h);
-          off = λ i h e. ⊎-elim (λ p. not-true (x i) (bit-true (not (x i)) (sym p ∙ e))) (λ p. absurd (omega arith)) (off s i h);
+          on = λ i h e. bit-high (x i) (omega (arith, on s i h));
+          off = λ i h e. not-true (x i) (bit-high (not (x i)) (omega (arith, off s i h)));
         }
 
   -- With lines held at 1 every line shows 1 that its sources would make show 1.
   module _ (s : OneSided net x 1 ν) where
     pub gates-up : Gates (Up ν) net
     gates-up =
-        each-weaken (λ y g. ⊎-elim (made-up ν y g (s .bits (g .left)) (s .bits (g .right))) (high-up ν y g)) (s .gates)
+        each-weaken (λ y g. made-up ν y g (s .bits y)) (s .gates)
 
     pub rails-up : RailsUp (net .contacts) x ν
     rails-up =
         record {
-          on = λ i h e. ⊎-elim (λ p. p ∙ ap bit e) (λ p. p) (on s i h);
-          off = λ i h e. ⊎-elim (λ p. p ∙ ap (λ (t : Bool). bit (not t)) e) (λ p. p) (off s i h);
+          on = λ i h e. omega (arith, on s i h, ap bit e, s .bits (2 + 2 * i));
+          off = λ i h e. omega (arith, off s i h, ap (λ (t : Bool). bit (not t)) e, s .bits (3 + 2 * i));
         }

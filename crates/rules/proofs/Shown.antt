@@ -9,7 +9,7 @@ use Rattle.diagram.specs.declared.Diagram.{Diagram}
 use Rattle.netlist.specs.declared.Pair.{Pair}
 use Rattle.netlist.specs.Netlist.{Netlist}
 use Rattle.simulation.specs.Run.{shownOf, shownBy}
-use Rattle.simulation.proofs.Turns.{length-shown}
+use Rattle.simulation.proofs.Shown.{length-shown}
 use Rattle.rules.specs.Board.{boardOf}
 use Rattle.rules.proofs.Pairs.{pair, pairs-length, pairs-at}
 

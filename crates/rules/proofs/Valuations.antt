@@ -41,8 +41,8 @@ pub record RailsUp (n : ℕ) (x : Input) (ν : ℕ → ℕ) : Type 0 where
   pub on : (i : ℕ) → i < n → x i ≡ true → ν (2 + 2 * i) ≡ 1
   pub off : (i : ℕ) → i < n → x i ≡ false → ν (3 + 2 * i) ≡ 1
 
--- An AND or OR of two bits is 1 exactly if they make it so.
-one-made : (b : Bool) (v l r : ℕ) → l ≤ 1 → r ≤ 1 → v ≡ cond b (min l r) (max l r) → v ≡ 1 →
+-- What is at most an AND or OR of two bits is 1 only if they make it so, and what is at least that is 1 if they do.
+one-made : (b : Bool) (v l r : ℕ) → l ≤ 1 → r ≤ 1 → v ≤ cond b (min l r) (max l r) → v ≡ 1 →
     cond b ((l ≡ 1) × (r ≡ 1)) ((l ≡ 1) ⊎ (r ≡ 1))
 one-made true v l r hl hr m e = (omega arith, omega arith)
 one-made false v l r hl hr m e = go (ℕ-discrete l 1)
@@ -51,24 +51,17 @@ one-made false v l r hl hr m e = go (ℕ-discrete l 1)
     go (yes p) = inl p
     go (no p) = inr (omega arith)
 
-made-one : (b : Bool) (v l r : ℕ) → l ≤ 1 → r ≤ 1 → v ≡ cond b (min l r) (max l r) →
+made-one : (b : Bool) (v l r : ℕ) → v ≤ 1 → cond b (min l r) (max l r) ≤ v →
     cond b ((l ≡ 1) × (r ≡ 1)) ((l ≡ 1) ⊎ (r ≡ 1)) → v ≡ 1
-made-one true v l r hl hr m e = omega arith
-made-one false v l r hl hr m (inl e) = omega arith
-made-one false v l r hl hr m (inr e) = omega arith
+made-one true v l r h m e = omega arith
+made-one false v l r h m (inl e) = omega arith
+made-one false v l r h m (inr e) = omega arith
 
 module _ (ν : ℕ → ℕ) (x : ℕ) (g : Gate) where
-  -- A line that shows 0 needs no sources, and one that shows 1 does what its sources would make it do.
-  pub low-down : ν x ≡ 0 → Down ν x g
-  low-down low e = absurd (omega arith)
+  -- A line that shows at most what its gate makes of two bits is justified.
+  pub made-down : ν (g .left) ≤ 1 → ν (g .right) ≤ 1 → ν x ≤ gateOf (g .kind) (ν (g .left)) (ν (g .right)) → Down ν x g
+  made-down = one-made (eqb (g .kind) 0) (ν x) (ν (g .left)) (ν (g .right))
 
-  pub high-up : ν x ≡ 1 → Up ν x g
-  high-up high _ = high
-
-  -- A line that shows what its gate makes of two bits has both.
-  module _ (l : ν (g .left) ≤ 1) (r : ν (g .right) ≤ 1) (m : ν x ≡ gateOf (g .kind) (ν (g .left)) (ν (g .right))) where
-    pub made-down : Down ν x g
-    made-down = one-made (eqb (g .kind) 0) (ν x) (ν (g .left)) (ν (g .right)) l r m
-
-    pub made-up : Up ν x g
-    made-up = made-one (eqb (g .kind) 0) (ν x) (ν (g .left)) (ν (g .right)) l r m
+  -- A line that shows at least that shows 1 where its sources would make it.
+  pub made-up : ν x ≤ 1 → gateOf (g .kind) (ν (g .left)) (ν (g .right)) ≤ ν x → Up ν x g
+  made-up = made-one (eqb (g .kind) 0) (ν x) (ν (g .left)) (ν (g .right))

@@ -33,7 +33,7 @@ boardOf d = netWith (d .contacts) (wholeBlock d .0) (listed (pairOf d (wholeBloc
 
 -- A rail or constant has depth 0, a gate one more than its deeper source.
 abbrev pub depthRule : Rule ℕ
-depthRule = record { op = λ k a b. suc (max a b); shows = λ x v. v; none = 0 }
+depthRule = record { op = λ line kind a b. suc (max a b); shows = λ x v. v; none = 0 }
 
 unfoldable pub depthsOf : Netlist → List ℕ
 depthsOf net = workOut depthRule (map gate (net .gates)) (replicate (gateLine (net .contacts)) 0)

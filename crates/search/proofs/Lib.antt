@@ -1,4 +1,6 @@
+pub mod Within
 pub mod Found
+pub mod Sites
 pub mod Lines
 pub mod Sources
 pub mod GateBatches

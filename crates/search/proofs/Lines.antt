@@ -11,70 +11,74 @@ use lib.ListN.{length, getD, take, set, length-map, length-set}
 use lib.Seq.{length-take-le, take-suc-set, getD-take}
 use Rattle.diagram.specs.Diagram.{Input, inputOf, bit}
 use Rattle.netlist.specs.declared.Hold.{Hold}
-use Rattle.netlist.specs.Netlist.{gateAt, gateLine, gatesOf, netOf}
+use Rattle.netlist.specs.Netlist.{gateAt, gateLine, gatesOf, levelOf, netOf}
 use Rattle.fields.specs.Bounded.{listed}
 use Rattle.simulation.specs.Run.{Driver, rail, gate, drive, workOut, gateOf, held, holding, valuesOf}
 use Rattle.fields.proofs.Listed.{listed-more}
 use Rattle.simulation.proofs.Runs.{run-append}
 use Rattle.rules.specs.Code.{codeRails}
 use Rattle.faults.specs.Betrayal.{stuckAt}
-use Rattle.batches.specs.Inner.Batches.{gateBatch, heldBatch, ruleOf}
+use Rattle.batches.specs.Inner.Batches.{gateBatch, heldBatch, heldLine, sourceOf, ruleOf}
+use Rattle.search.proofs.Sites.{taken, held-once, sourced-gate}
 use Rattle.bits.specs.Inner.Bits.{bitOf, bitsOf}
 use Rattle.bits.proofs.Bits.{ones, bit-zero, bit-ones, bits-at, bit-and, bit-or, bit-flip}
 
-module _ (k line batch : ℕ) where
-  shows-bit : (x made : ℕ) → bitOf k (heldBatch line batch x made) ≡ ruleOf line batch k .shows x (bitOf k made)
-  unfolding held
-  shows-bit x made = go (eqb line x)
+pub made-bit : (k kind a b : ℕ) → bitOf k (gateBatch kind a b) ≡ gateOf kind (bitOf k a) (bitOf k b)
+made-bit k kind a b = go (eqb kind 0)
+  where
+    go : (q : Bool) → bitOf k (cond q (bitAnd a b) (bitOr a b)) ≡ cond q (min (bitOf k a) (bitOf k b)) (max (bitOf k a) (bitOf k b))
+    go true = bit-and k a b
+    go false = bit-or k a b
+
+module _ (k : ℕ) (h : Hold) where
+  -- What a rail shows.
+  rail-bit : (x b line batch made shown : ℕ) → 2 ≤ x → line ≡ heldLine h 0 → bitOf k batch ≡ levelOf h → bitOf k made ≡ b →
+      shown ≡ heldBatch line batch x made → bitOf k shown ≡ held (h ∷ []) x 0 b
+  rail-bit x b line batch made shown l el ev em es = taken h x 0 b l el ev em (ap (bitOf k) es ∙ go (eqb line x)) ∙ held-once h x b
     where
-      go : (b : Bool) → bitOf k (cond b batch made) ≡ cond b (bitOf k batch) (bitOf k made)
+      go : (q : Bool) → bitOf k (cond q batch made) ≡ cond q (bitOf k batch) (bitOf k made)
       go true = refl
       go false = refl
 
-  pub made-bit : (kind a b : ℕ) → bitOf k (gateBatch kind a b) ≡ gateOf kind (bitOf k a) (bitOf k b)
-  made-bit kind a b = go (eqb kind 0)
-    where
-      go : (q : Bool) → bitOf k (cond q (bitAnd a b) (bitOr a b)) ≡ cond q (min (bitOf k a) (bitOf k b)) (max (bitOf k a) (bitOf k b))
-      go true = bit-and k a b
-      go false = bit-or k a b
+  source : (ws : List ℕ) (x i : ℕ) → i < x → bitOf k (getD ws i 0) ≡ getD (bitsOf k (take x ws)) i 0
+  source ws x i l = ap (bitOf k) (sym (getD-take x ws i 0 l)) ∙ sym (bits-at k (take x ws) i)
 
-  source : (ws : List ℕ) (x i w : ℕ) → i < x → w ≡ getD ws i 0 → bitOf k w ≡ getD (bitsOf k (take x ws)) i 0
-  source ws x i w l e =
-      ap (bitOf k) (e ∙ sym (getD-take x ws i 0 l)) ∙ sym (bits-at k (take x ws) i)
+  size : (ws : List ℕ) (x : ℕ) → x < length ws → length (bitsOf k (take x ws)) ≡ x
+  size ws x l = length-map (take x ws) (bitOf k) ∙ length-take-le x ws (omega arith)
 
   -- One line more.
-  put-line : (ws vs : List ℕ) (x made shown : ℕ) (ds : List (Driver ℕ)) (d : Driver ℕ) → x < length ws →
-      bitOf k shown ≡ bitOf k (heldBatch line batch x made) → drive (ruleOf line batch k) (bitsOf k (take x ws)) d ≡ bitOf k made →
-      bitsOf k (take x ws) ≡ workOut (ruleOf line batch k) ds vs →
-      bitsOf k (take (x + 1) (set ws x shown)) ≡ workOut (ruleOf line batch k) (ds ++ (d ∷ [])) vs
+  put-line : (ws vs : List ℕ) (x shown : ℕ) (ds : List (Driver ℕ)) (d : Driver ℕ) → x < length ws →
+      bitOf k shown ≡ held (h ∷ []) x 0 (drive (ruleOf h) (bitsOf k (take x ws)) d) →
+      bitsOf k (take x ws) ≡ workOut (ruleOf h) ds vs →
+      bitsOf k (take (x + 1) (set ws x shown)) ≡ workOut (ruleOf h) (ds ++ (d ∷ [])) vs
   unfolding workOut
-  put-line ws vs x made shown ds d l es ed e =
-      let size : length (bitsOf k (take x ws)) ≡ x = length-map (take x ws) (bitOf k) ∙ length-take-le x ws (omega arith) in
+  put-line ws vs x shown ds d l es e =
       rw (add-one x, take-suc-set ws x shown l)
       (map-append (bitOf k) (take x ws) (shown ∷ [])
       ∙ ap (λ (v : ℕ). bitsOf k (take x ws) ++ (v ∷ []))
-      (es ∙ shows-bit x made ∙ ap₂ (ruleOf line batch k .shows) (sym size) (sym ed))
-      ∙ ap (workOut (ruleOf line batch k) (d ∷ [])) e
-      ∙ sym (run-append (ruleOf line batch k) ds (d ∷ []) vs))
+      (es ∙ ap (λ (y : ℕ). held (h ∷ []) y 0 (drive (ruleOf h) (bitsOf k (take x ws)) d)) (sym (size ws x l)))
+      ∙ ap (workOut (ruleOf h) (d ∷ [])) e
+      ∙ sym (run-append (ruleOf h) ds (d ∷ []) vs))
 
   -- A contact's two rails more.
-  pub rails-more : (ws vs : List ℕ) (x : Input) (i on t f : ℕ) → gateLine (i + 1) ≤ length ws → k < 64 →
-      bitOf k on ≡ bit (x i) → t ≡ heldBatch line batch (2 + 2 * i) on → f ≡ heldBatch line batch (2 + 2 * i + 1) (bitXor on ones) →
-      bitsOf k (take (gateLine i) ws) ≡ workOut (ruleOf line batch k) (map rail (codeRails i x)) vs →
+  pub rails-more : (ws vs : List ℕ) (x : Input) (i line batch on t f : ℕ) → gateLine (i + 1) ≤ length ws → k < 64 →
+      line ≡ heldLine h 0 → bitOf k batch ≡ levelOf h → bitOf k on ≡ bit (x i) →
+      t ≡ heldBatch line batch (2 + 2 * i) on → f ≡ heldBatch line batch (2 + 2 * i + 1) (bitXor on ones) →
+      bitsOf k (take (gateLine i) ws) ≡ workOut (ruleOf h) (map rail (codeRails i x)) vs →
       bitsOf k (take (gateLine (i + 1)) (set (set ws (2 + 2 * i) t) (2 + 2 * i + 1) f))
-      ≡ workOut (ruleOf line batch k) (map rail (codeRails (i + 1) x)) vs
+      ≡ workOut (ruleOf h) (map rail (codeRails (i + 1) x)) vs
   unfolding codeRails drive
-  rails-more ws vs x i on t f l lk eo et ef e =
+  rails-more ws vs x i line batch on t f l lk el ev eo et ef e =
       let rails = map rail (codeRails i x) in
       let on-rail = rail (bit (x i)) in
       let off-rail = rail (bit (not (x i))) in
       let room : 2 + 2 * i + 1 < length (set ws (2 + 2 * i) t) = rw length-set (omega arith) in
       let next : gateLine (i + 1) ≡ 2 + 2 * i + 1 + 1 = omega arith in
       rw next
-      (put-line (set ws (2 + 2 * i) t) vs (2 + 2 * i + 1) (bitXor on ones) f (rails ++ (on-rail ∷ [])) off-rail room (ap (bitOf k) ef)
-      (sym (bit-flip k on (x i) lk eo))
-      (put-line ws vs (2 + 2 * i) on t rails on-rail (omega arith) (ap (bitOf k) et) (sym eo) e)
-      ∙ ap (λ (ds : List (Driver ℕ)). workOut (ruleOf line batch k) ds vs)
+      (put-line (set ws (2 + 2 * i) t) vs (2 + 2 * i + 1) f (rails ++ (on-rail ∷ [])) off-rail room
+      (rail-bit (2 + 2 * i + 1) (bit (not (x i))) line batch (bitXor on ones) f (omega arith) el ev (bit-flip k on (x i) lk eo) ef)
+      (put-line ws vs (2 + 2 * i) t rails on-rail (omega arith) (rail-bit (2 + 2 * i) (bit (x i)) line batch on t (omega arith) el ev eo et) e)
+      ∙ ap (λ (ds : List (Driver ℕ)). workOut (ruleOf h) ds vs)
       (append-assoc rails (on-rail ∷ []) (off-rail ∷ [])
       ∙ sym (map-append rail (codeRails i x) (bit (x i) ∷ bit (not (x i)) ∷ []))
       ∙ ap (λ (n : ℕ). map rail (codeRails n x)) (sym (add-one i))))
@@ -83,21 +87,24 @@ module _ (k line batch : ℕ) where
   pub gates-more : (ws vs gates : List ℕ) (first g shown : ℕ) → first + g < length ws →
       gateAt gates g .left < first + g → gateAt gates g .right < first + g →
       bitOf k shown
-      ≡ bitOf k (heldBatch line batch (first + g)
-      (gateBatch (getD gates (5 * g) 0) (getD ws (gateAt gates g .left) 0) (getD ws (gateAt gates g .right) 0))) →
-      bitsOf k (take (first + g) ws) ≡ workOut (ruleOf line batch k) (map gate (listed (gateAt gates) g 0)) vs →
-      bitsOf k (take (first + (g + 1)) (set ws (first + g) shown))
-      ≡ workOut (ruleOf line batch k) (map gate (listed (gateAt gates) (g + 1) 0)) vs
+      ≡ gateOf (getD gates (5 * g) 0) (sourceOf h (first + g) 1 (bitOf k (getD ws (gateAt gates g .left) 0)))
+      (sourceOf h (first + g) 2 (bitOf k (getD ws (gateAt gates g .right) 0))) →
+      bitsOf k (take (first + g) ws) ≡ workOut (ruleOf h) (map gate (listed (gateAt gates) g 0)) vs →
+      bitsOf k (take (first + (g + 1)) (set ws (first + g) shown)) ≡ workOut (ruleOf h) (map gate (listed (gateAt gates) (g + 1) 0)) vs
   unfolding drive
   gates-more ws vs gates first g shown l ll lr es e =
-      let next : first + (g + 1) ≡ first + g + 1 = omega arith in
+      let x = first + g in
+      let kind = getD gates (5 * g) 0 in
+      let next : first + (g + 1) ≡ x + 1 = omega arith in
+      let vs-at : ℕ → ℕ = λ i. getD (bitsOf k (take x ws)) i 0 in
+      let made : ℕ → ℕ → ℕ → ℕ = λ y a b. gateOf kind (held (h ∷ []) y 1 a) (held (h ∷ []) y 2 b) in
       rw next
-      (put-line ws vs (first + g) _ shown (map gate (listed (gateAt gates) g 0)) (gate (gateAt gates g)) l es
-      (sym
-      (made-bit (getD gates (5 * g) 0) _ _
-      ∙ ap₂ (gateOf (getD gates (5 * g) 0)) (source ws (first + g) _ _ ll refl) (source ws (first + g) _ _ lr refl)))
+      (put-line ws vs x shown (map gate (listed (gateAt gates) g 0)) (gate (gateAt gates g)) l
+      (es ∙ sourced-gate h x kind _ _
+      ∙ ap (held (h ∷ []) x 0)
+      (ap₂ (made x) (source ws x _ ll) (source ws x _ lr) ∙ ap (λ (y : ℕ). made y (vs-at (gateAt gates g .left)) (vs-at (gateAt gates g .right))) (sym (size ws x l))))
       e
-      ∙ ap (λ (ds : List (Driver ℕ)). workOut (ruleOf line batch k) ds vs)
+      ∙ ap (λ (ds : List (Driver ℕ)). workOut (ruleOf h) ds vs)
       (sym (ap (map gate) (listed-more (gateAt gates) g) ∙ map-append gate (listed (gateAt gates) g 0) (gateAt gates g ∷ []))))
 
 -- The constants' batches.

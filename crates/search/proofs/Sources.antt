@@ -7,11 +7,12 @@ use mathlib.Core.List.{List}
 use mathlib.Core.Logic.{⊎-elim}
 use lib.ListN.{length, getD, set, length-set}
 use lib.Seq.{getD-set-same, getD-set-other}
+use Rattle.netlist.specs.declared.Hold.{Hold}
 use Rattle.netlist.specs.Netlist.{gateAt}
-use Rattle.batches.specs.Inner.Batches.{heldBatch, SourcesTaken}
+use Rattle.batches.specs.Inner.Batches.{sourceOf, SourcesTaken}
 
 -- A gate more.
-module _ (first line value : ℕ) (gates sources : List ℕ) (g left right : ℕ) (room : 2 * g + 1 < length sources) where
+module _ (first : ℕ) (h : Hold) (gates sources : List ℕ) (g left right : ℕ) (room : 2 * g + 1 < length sources) where
   abbrev put : List ℕ
   put = set (set sources (2 * g) left) (2 * g + 1) right
 
@@ -28,9 +29,9 @@ module _ (first line value : ℕ) (gates sources : List ℕ) (g left right : ℕ
       getD-set-other (set sources (2 * g) left) (2 * g + 1) i right 0 (λ e. omega arith)
       ∙ getD-set-other sources (2 * g) i left 0 (λ e. omega arith)
 
-  pub sources-more : left ≡ heldBatch line value (first + g) (gateAt gates g .left) →
-      right ≡ heldBatch line value (first + g) (gateAt gates g .right) → SourcesTaken first line value g gates sources →
-      SourcesTaken first line value (g + 1) gates put
+  pub sources-more : left ≡ sourceOf h (first + g) 1 (gateAt gates g .left) →
+      right ≡ sourceOf h (first + g) 2 (gateAt gates g .right) → SourcesTaken first h g gates sources →
+      SourcesTaken first h (g + 1) gates put
   sources-more el er s =
       record {
         room = simp length-set (omega arith);
@@ -39,7 +40,3 @@ module _ (first line value : ℕ) (gates sources : List ℕ) (g left right : ℕ
         right = λ i l.
             ⊎-elim (λ e. rw e (put-right ∙ er)) (λ m. put-before (2 * i + 1) (omega arith) ∙ s .right i m) (eq-or-lt-of-le (omega arith));
       }
-
-pub sources-at : (first line count : ℕ) (gates sources : List ℕ) (v w : ℕ) → w ≡ v → SourcesTaken first line v count gates sources →
-    SourcesTaken first line w count gates sources
-sources-at first line count gates sources v w e s = rw e s

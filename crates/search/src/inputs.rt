@@ -1,4 +1,4 @@
-// The smallest code input that betrays a held line, and the lowest output that shows it.
+// The smallest code input that betrays a held line or pin, and the lowest output that shows it.
 use crate::passes;
 ghost use mathlib.Core.Path.{_≡_};
 ghost use mathlib.Core.Bool.{true};
@@ -7,9 +7,16 @@ ghost use lib.ListN.{length};
 ghost use Rattle.diagram.specs.Diagram.{bit};
 ghost use Rattle.netlist.specs.Netlist.{pairsOf, netOf};
 ghost use Rattle.wiring.specs.Questions.{arePairs};
-ghost use Rattle.faults.specs.Betrayal.{someNoCode, lowestNoCode, smallestInput};
-ghost use Rattle.batches.specs.Inner.Batches.{SearchReady, BuffersFit};
+ghost use Rattle.faults.specs.Betrayal.{someNoCode, lowestNoCode};
+ghost use Rattle.batches.specs.Inner.Batches.{holdOf, SearchReady, BuffersFit};
 ghost use Rattle.bits.specs.Inner.Bits.{bitOf, bitsOf};
+ghost use Rattle.search.specs.Inner.Found.{foundIn};
+
+// The smallest code input that betrays a held line or pin, or none.
+pub enum Found {
+    At(u32),
+    Nowhere,
+}
 
 // The inputs at which some output's true and false line agree.
 fn agreeing(pairs: &[u8], batches: &[u64]) -> u64
@@ -27,7 +34,8 @@ fn agreeing(pairs: &[u8], batches: &[u64]) -> u64
     mask
 }
 
-// The smallest code input that betrays a held line, which some input does, with room for the gates' sources and the lines' batches.
+// The smallest code input that betrays a held line or pin, with room for the gates' sources and the lines' batches. Inputs past the last
+// repeat those before, so none of them is the smallest.
 fn search_in(
     gates: &[u8],
     pairs: &[u8],
@@ -37,36 +45,37 @@ fn search_in(
     sources: &mut [u16],
     low: &mut [u64],
     high: &mut [u64],
-) -> u32
-    requires { ⌜ SearchReady n (now gates) (now pairs) (record { line = line; value = value }) ⌝ }
+) -> Found
+    requires { ⌜ SearchReady n (now gates) (now pairs) ⌝ }
     requires { ⌜ BuffersFit n (now gates) (length (now sources)) (length (now low)) (length (now high)) ⌝ }
-    ensures { λ r. ⌜ r
-        ≡ smallestInput (netOf n (now (gates .entry)) (now (pairs .entry))) (record { line = line; value = value }) ⌝ }
+    ensures { λ r. ⌜ r ≡ foundIn (netOf n (now (gates .entry)) (now (pairs .entry))) (holdOf line value) ⌝ }
 {
     passes::take_sources(gates, 2 + 2 * n, line, value, sources);
-    let batch = bits::same_batch(value);
     let lines = 2 + 2 * n + gates.len() / 5;
+    let end = 1usize << n;
     let mut base = 0;
-    loop {
-        passes::work_batches(gates, sources, n, base, line, batch, low, high);
+    while base < end {
+        passes::work_batches(gates, sources, n, base, line, value, low, high);
         let mask = agreeing(pairs, &low[..lines]);
         if mask != 0 {
-            return base as u32 + bits::lowest_bit(mask);
+            let input = base as u32 + bits::lowest_bit(mask);
+            return Found::At(input);
         }
         let next = base + 64;
         let mask = agreeing(pairs, &high[..lines]);
         if mask != 0 {
-            return next as u32 + bits::lowest_bit(mask);
+            let input = next as u32 + bits::lowest_bit(mask);
+            return Found::At(input);
         }
         base = next + 64;
     }
+    Found::Nowhere
 }
 
-// The smallest code input that betrays a held line, which some input does. A small board has little room to clear.
-pub fn search(gates: &[u8], pairs: &[u8], n: usize, line: usize, value: u8) -> u32
-    requires { ⌜ SearchReady n (now gates) (now pairs) (record { line = line; value = value }) ⌝ }
-    ensures { λ r. ⌜ r
-        ≡ smallestInput (netOf n (now (gates .entry)) (now (pairs .entry))) (record { line = line; value = value }) ⌝ }
+// The smallest code input that betrays a held line or pin. A small board has little room to clear.
+pub fn search(gates: &[u8], pairs: &[u8], n: usize, line: usize, value: u8) -> Found
+    requires { ⌜ SearchReady n (now gates) (now pairs) ⌝ }
+    ensures { λ r. ⌜ r ≡ foundIn (netOf n (now (gates .entry)) (now (pairs .entry))) (holdOf line value) ⌝ }
 {
     if gates.len() <= 1150 {
         let mut sources = [0u16; 460];

@@ -1,9 +1,9 @@
+pub mod Applied
 pub mod Runs
 pub mod Obeys
 pub mod Related
 pub mod Monotone
-pub mod Waits
 pub mod Answers
-pub mod Outcomes
+pub mod Shown
 pub mod Writes
-pub mod Turns
+pub mod Worked

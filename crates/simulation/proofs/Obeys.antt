@@ -5,8 +5,8 @@ use native.Mathlib.Nat.{add-assoc}
 use native.Mathlib.Omega.{arith}
 use mathlib.Core.Path.{_≡_, _∙_}
 use mathlib.Core.List.{List, [], _∷_, _++_, map}
-use lib.ListN.{length, getD, length-append, length-map, List·getD-append, List·getD-map}
-use lib.Seq.{getD-append-add, getD-take}
+use lib.ListN.{length, getD, take, length-append, length-map, List·getD-append, List·getD-map}
+use lib.Seq.{getD-append-add, getD-take, length-take-le}
 use Rattle.netlist.specs.declared.Gate.{Gate}
 use Rattle.netlist.specs.declared.Hold.{Hold}
 use Rattle.netlist.specs.Netlist.{Netlist, gateLine, lineCount}
@@ -28,7 +28,7 @@ module _ {A : Type 0} (r : Rule A) (ds : List (Driver A)) (gates : List Gate) (v
       let x = length vs + length ds + g in
       let at = getD gates g other in
       at .left < x → at .right < x →
-      getD ws x (r .none) ≡ r .shows x (r .op (at .kind) (getD ws (at .left) (r .none)) (getD ws (at .right) (r .none)))
+      getD ws x (r .none) ≡ r .shows x (r .op x (at .kind) (getD ws (at .left) (r .none)) (getD ws (at .right) (r .none)))
   unfolding drive
   gate-obeys g other h hl hr =
       let all : List (Driver A) = ds ++ map gate gates in
@@ -37,8 +37,9 @@ module _ {A : Type 0} (r : Rule A) (ds : List (Driver A)) (gates : List Gate) (v
       let at = getD gates g other in
       let inside : length ds + g < length all = simp (length-append, length-map) (omega arith) in
       let its = getD-append-add ds (map gate gates) g (gate other) ∙ List·getD-map gate gates g other in
+      let long : length (take x ws) ≡ x = length-take-le x ws (omega (arith, length-run r all vs)) in
       rw (add-assoc (length vs) (length ds) g)
-      (rw (its, getD-take x ws (at .left) (r .none) (omega arith), getD-take x ws (at .right) (r .none) (omega arith)) at
+      (rw (its, long, getD-take x ws (at .left) (r .none) (omega arith), getD-take x ws (at .right) (r .none) (omega arith)) at
       (run-at r all vs (length ds + g) (r .none) (gate other) inside))
 
 -- The values vs of a netlist's lines at such rails under such holds.
@@ -46,11 +47,12 @@ pub record Obeys (net : Netlist) (rails : List ℕ) (holds : List Hold) (vs : Li
   pub lines : length vs ≡ lineCount net
   pub low : getD vs 0 0 ≡ 0
   pub high : getD vs 1 0 ≡ 1
-  pub rail : (i : ℕ) → i < 2 * net .contacts → getD vs (2 + i) 0 ≡ held holds (2 + i) (getD rails i 0)
+  pub rail : (i : ℕ) → i < 2 * net .contacts → getD vs (2 + i) 0 ≡ held holds (2 + i) 0 (getD rails i 0)
   pub gate : (g : ℕ) (d : Gate) → g < length (net .gates) →
-      getD vs (gateLine (net .contacts) + g) 0
-      ≡ held holds (gateLine (net .contacts) + g)
-      (gateOf (getD (net .gates) g d .kind) (getD vs (getD (net .gates) g d .left) 0) (getD vs (getD (net .gates) g d .right) 0))
+      let x = gateLine (net .contacts) + g in
+      let at = getD (net .gates) g d in
+      getD vs x 0
+      ≡ held holds x 0 (gateOf (at .kind) (held holds x 1 (getD vs (at .left) 0)) (held holds x 2 (getD vs (at .right) 0)))
 
 pub obeys : (net : Netlist) (rails : List ℕ) (holds : List Hold) → length rails ≡ 2 * net .contacts → Wired net →
     Obeys net rails holds (valuesOf net rails holds)

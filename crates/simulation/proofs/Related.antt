@@ -40,12 +40,13 @@ module _ {A B : Type 0} {R : A → B → Type 0} where
   each-driver gs (more h e) = more (rails h) (each-driver gs e)
 
 module _ {A B : Type 0} (r : Rule A) (s : Rule B) (R : A → B → Type 0) (on-none : R (r .none) (s .none))
-    (on-op : (k : ℕ) (a c : A) (b d : B) → R a b → R c d → R (r .op k a c) (s .op k b d))
+    (on-op : (x k : ℕ) (a c : A) (b d : B) → R a b → R c d → R (r .op x k a c) (s .op x k b d))
     (on-shows : (x : ℕ) (a : A) (b : B) → R a b → R (r .shows x a) (s .shows x b)) where
   drive-each : {vs : List A} {ws : List B} {d : Driver A} {e : Driver B} → Pairwise R vs ws → Alike R d e → R (drive r vs d) (drive s ws e)
   unfolding drive
   drive-each vs (rails h) = h
-  drive-each vs (gates g) = on-op (g .kind) _ _ _ _ (each-at vs on-none (g .left)) (each-at vs on-none (g .right))
+  drive-each {vs = xs} vs (gates g) =
+      rw (← each-length vs, drive) (on-op (length xs) (g .kind) _ _ _ _ (each-at vs on-none (g .left)) (each-at vs on-none (g .right)))
 
   pub run-each : {vs : List A} {ws : List B} {ds : List (Driver A)} {es : List (Driver B)} → Pairwise (Alike R) ds es → Pairwise R vs ws →
       Pairwise R (workOut r ds vs) (workOut s es ws)

@@ -2,11 +2,11 @@
 use native.Mathlib.Nat.{not-suc-le-zero, add-zero}
 use native.Mathlib.Omega.{arith}
 use Prim.Native.Nat.{ℕ, zero, suc, _+_, _<_}
-use mathlib.Core.Path.{_≡_, refl, sym, ap, ap₂, subst, _∙_}
-use mathlib.Core.List.{List, [], _∷_, _++_, map, map-append}
-use lib.ListN.{length, getD, take, length-append, length-map, List·getD-append, List·getD-map}
+use mathlib.Core.Path.{_≡_, refl, sym, ap, subst, _∙_}
+use mathlib.Core.List.{List, [], _∷_, _++_}
+use lib.ListN.{length, getD, take, length-append, List·getD-append}
 use lib.Seq.{getD-append-seam, take-append-seam, take-length, take-take}
-use Rattle.simulation.specs.Run.{Driver, rail, gate, Rule, drive, workOut}
+use Rattle.simulation.specs.Run.{Driver, Rule, drive, workOut}
 
 module _ {A : Type 0} (r : Rule A) where
   pub length-run : (ds : List (Driver A)) (vs : List A) → length (workOut r ds vs) ≡ length vs + length ds
@@ -62,29 +62,3 @@ module _ {A : Type 0} (r : Rule A) where
       ≡ workOut r ds vs ++ (r .shows (length (workOut r ds vs)) (drive r (workOut r ds vs) d) ∷ [])
   unfolding workOut
   run-more ds d vs = run-append ds (d ∷ []) vs
-
-abbrev pub driver-map : {A B : Type 0} → (A → B) → Driver A → Driver B
-driver-map f (rail a) = rail (f a)
-driver-map f (gate g) = gate g
-
--- A map that commutes with the rules carries a run to a run.
-module _ {A B : Type 0} (r : Rule A) (s : Rule B) (f : A → B)
-    (on-op : (k : ℕ) (a b : A) → f (r .op k a b) ≡ s .op k (f a) (f b))
-    (on-shows : (x : ℕ) (a : A) → f (r .shows x a) ≡ s .shows x (f a))
-    (on-none : f (r .none) ≡ s .none) where
-  source-map : (vs : List A) (x : ℕ) → f (getD vs x (r .none)) ≡ getD (map f vs) x (s .none)
-  source-map vs x = sym (List·getD-map f vs x (r .none)) ∙ ap (getD (map f vs) x) on-none
-
-  drive-map : (vs : List A) (d : Driver A) → f (drive r vs d) ≡ drive s (map f vs) (driver-map f d)
-  unfolding drive
-  drive-map vs (rail a) = refl
-  drive-map vs (gate g) = on-op (g .kind) _ _ ∙ ap₂ (s .op (g .kind)) (source-map vs (g .left)) (source-map vs (g .right))
-
-  pub run-map : (ds : List (Driver A)) (vs : List A) → map f (workOut r ds vs) ≡ workOut s (map (driver-map f) ds) (map f vs)
-  unfolding workOut
-  run-map [] vs = refl
-  run-map (d ∷ ds) vs =
-      run-map ds (vs ++ (r .shows (length vs) (drive r vs d) ∷ []))
-      ∙ ap (workOut s (map (driver-map f) ds))
-      (map-append f vs _ ∙ ap (λ (b : B). map f vs ++ (b ∷ []))
-      (on-shows (length vs) _ ∙ ap₂ (s .shows) (sym (length-map vs f)) (drive-map vs d)))

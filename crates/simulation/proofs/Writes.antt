@@ -1,14 +1,14 @@
 -- What a buffer holds while lines are worked out into it, one after the other.
 use native.Mathlib.Omega.{arith}
-use Prim.Native.Nat.{ℕ, _+_, _≤_, _<_}
+use Prim.Native.Nat.{ℕ, _+_, _-_, _≤_, _<_}
 use mathlib.Core.Path.{_≡_, refl, sym, ap, _∙_}
 use mathlib.Core.List.{List, [], _∷_, _++_}
-use lib.ListN.{length, getD, take, drop, set}
-use lib.Seq.{length-take-le, take-at}
+use lib.ListN.{length, getD, take, set}
+use lib.Seq.{length-take-le, take-length}
 use Rattle.simulation.specs.Run.{Driver, Rule, drive, workOut}
 use Rattle.files.specs.Room.{over}
 use Rattle.files.proofs.Buffers.{over-at, over-set, over-over}
-use Rattle.simulation.proofs.Runs.{length-run, run-append, run-more}
+use Rattle.simulation.proofs.Runs.{length-run, run-more}
 
 -- The buffer after so many drivers from a line on.
 module _ (r : Rule ℕ) (first : ℕ) (buffer : List ℕ) where
@@ -37,18 +37,13 @@ constants [] h = absurd (omega arith)
 constants (x ∷ []) h = absurd (omega arith)
 constants (x ∷ y ∷ l) h = refl
 
--- The constants written, then some lines worked out, then further lines from where these end.
-pub all-lines : (r : Rule ℕ) (ds es : List (Driver ℕ)) (buffer : List ℕ) (first : ℕ) {us ws : List ℕ} →
-    first ≡ 2 + length ds → first + length es ≤ length buffer →
-    us ≡ over (workOut r ds (take 2 (set (set buffer 0 0) 1 1))) (set (set buffer 0 0) 1 1) →
-    ws ≡ over (workOut r es (take first us)) us → ws ≡ over (workOut r (ds ++ es) (0 ∷ 1 ∷ [])) buffer
-all-lines r ds es buffer first f room d e =
+-- The constants written, then every line worked out.
+pub all-lines : (r : Rule ℕ) (ds : List (Driver ℕ)) (buffer : List ℕ) (count : ℕ) {ws : List ℕ} → count ≡ 2 + length ds →
+    count ≤ length buffer → (let us = set (set buffer 0 0) 1 1 in ws ≡ over (workOut r (take (count - 2) ds) (take 2 us)) us) →
+    ws ≡ over (workOut r ds (0 ∷ 1 ∷ [])) buffer
+all-lines r ds buffer count c room e =
     let cs : List ℕ = 0 ∷ 1 ∷ [] in
-    let vs = workOut r ds cs in
-    let l = length-run r ds cs in
-    let begun = d ∙ ap (λ (b : List ℕ). over (workOut r ds (take 2 b)) b) (constants buffer (omega arith))
-    ∙ over-over vs buffer cs (omega arith) in
-    e ∙ ap (λ (b : List ℕ). over (workOut r es (take first b)) b) begun
-    ∙ ap (λ (us : List ℕ). over (workOut r es us) (over vs buffer)) (take-at vs (drop (length vs) buffer) first (l ∙ sym f))
-    ∙ over-over (workOut r es vs) buffer vs (omega (arith, length-run r es vs))
-    ∙ ap (λ (us : List ℕ). over us buffer) (sym (run-append r ds es cs))
+    let all : count - 2 ≡ length ds = omega arith in
+    e ∙ ap (λ (b : List ℕ). over (workOut r (take (count - 2) ds) (take 2 b)) b) (constants buffer (omega arith))
+    ∙ ap (λ (es : List (Driver ℕ)). over (workOut r es cs) (over cs buffer)) (ap (λ (k : ℕ). take k ds) all ∙ take-length ds)
+    ∙ over-over (workOut r ds cs) buffer cs (omega (arith, length-run r ds cs))

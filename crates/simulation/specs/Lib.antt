@@ -1,3 +1,2 @@
 pub mod Run
 pub mod Service
-pub mod Inner

@@ -1,28 +1,29 @@
--- The run rule: a rail has its byte, a gate the AND or OR of its sources' values, holds going before both.
+-- The run rule: a rail has its byte, a gate the AND or OR of its pins' values, a pin its source's value, holds going before all of them.
 use Prim.Native.Nat.{ℕ, min, max}
-use mathlib.Core.Bool.{cond}
+use mathlib.Core.Bool.{_&&_, cond}
 use mathlib.Core.List.{List, [], _∷_, _++_, map, flatMap}
 use lib.Dec.{eqb}
 use lib.ListN.{length, getD}
 use Rattle.netlist.specs.declared.Gate.{Gate}
 use Rattle.netlist.specs.declared.Pair.{Pair}
 use Rattle.netlist.specs.declared.Hold.{Hold}
-use Rattle.netlist.specs.Netlist.{Netlist}
+use Rattle.netlist.specs.Netlist.{Netlist, siteOf, levelOf}
 
 -- What drives a line.
 pub data Driver (A : Type 0) : Type 0 where
   rail : A → Driver A
   gate : Gate → Driver A
 
--- How values are worked out: what a gate of a kind makes of two values, and what a line shows, given what its driver makes.
+-- How values are worked out: what the gate of a line, of a kind, makes of its sources' values, and what a line shows, given what its
+-- driver makes.
 pub record Rule (A : Type 0) : Type 0 where
-  pub op : ℕ → A → A → A
+  pub op : ℕ → ℕ → A → A → A
   pub shows : ℕ → A → A
   pub none : A
 
 unfoldable pub drive : {A : Type 0} → Rule A → List A → Driver A → A
 drive r vs (rail a) = a
-drive r vs (gate g) = r .op (g .kind) (getD vs (g .left) (r .none)) (getD vs (g .right) (r .none))
+drive r vs (gate g) = r .op (length vs) (g .kind) (getD vs (g .left) (r .none)) (getD vs (g .right) (r .none))
 
 -- The lines' values from line 0 up: those known so far, then one for each further driver.
 unfoldable pub workOut : {A : Type 0} → Rule A → List (Driver A) → List A → List A
@@ -33,14 +34,19 @@ workOut r (d ∷ ds) vs = workOut r ds (vs ++ (r .shows (length vs) (drive r vs 
 abbrev pub gateOf : ℕ → ℕ → ℕ → ℕ
 gateOf kind a b = cond (eqb kind 0) (min a b) (max a b)
 
--- A held line shows its held value.
-unfoldable pub held : List Hold → ℕ → ℕ → ℕ
-held [] line v = v
-held (h ∷ hs) line v = cond (eqb (h .line) line) (h .value) (held hs line v)
+-- What a site of a line has that would have value v: its held value if it is held.
+unfoldable pub held : List Hold → ℕ → ℕ → ℕ → ℕ
+held [] line site v = v
+held (h ∷ hs) line site v = cond (eqb (h .line) line && eqb (siteOf h) site) (levelOf h) (held hs line site v)
 
--- The run rule of a hold list.
+-- The run rule of a hold list: a gate makes AND or OR of what its two pins have, and a line shows what it has.
 abbrev pub holding : List Hold → Rule ℕ
-holding holds = record { op = gateOf; shows = held holds; none = 0 }
+holding holds =
+    record {
+      op = λ line kind a b. gateOf kind (held holds line 1 a) (held holds line 2 b);
+      shows = λ line v. held holds line 0 v;
+      none = 0;
+    }
 
 -- What drives the lines past the constants: the rails, then the gates.
 abbrev pub driversOf : List ℕ → List Gate → List (Driver ℕ)

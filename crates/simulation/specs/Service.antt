@@ -4,7 +4,7 @@ use mathlib.Core.List.{List, [], _∷_}
 use lib.ListN.{length}
 use Rattle.fields.specs.Refusals.{firstNo}
 use Rattle.files.specs.Room.{roomOf, roomNumber, over}
-use Rattle.netlist.specs.Netlist.{Netlist, holdsOf, lineCount}
+use Rattle.netlist.specs.Netlist.{Netlist, holdsOf, gateLine, lineCount}
 use Rattle.wiring.specs.Questions.{netlistIn, netlistRefusal}
 use Rattle.drive.specs.Questions.{railsOf, railsNumber, orderOf, holdsNumber}
 use Rattle.simulation.specs.Run.{valuesOf, shownBy}
@@ -22,7 +22,7 @@ runRefusal file rails holds lines pairs =
     firstNo
     (netlistRefusal file
     ∷ railsNumber (railsOf (net .contacts) rails)
-    ∷ holdsNumber (orderOf (lineCount net) holds)
+    ∷ holdsNumber (orderOf (gateLine (net .contacts)) (lineCount net) holds)
     ∷ roomNumber (roomOf (lineCount net) lines)
     ∷ roomNumber (roomOf (2 * (length (net .pairs) + length (net .lamp))) pairs)
     ∷ [])

@@ -1,5 +1,1 @@
-// The simulation of a netlist with stuck lines.
-mod simulate;
-
-pub use simulate::run;
-pub use simulate::work_out;
+// The simulation of a netlist with stuck lines and pins: definitions and laws, no code.

@@ -11,7 +11,7 @@ use Rattle.diagram.specs.declared.Diagram.{Diagram}
 use Rattle.diagram.specs.Questions.{Sized}
 use Rattle.diagram.proofs.Unique.{Reduced}
 use Rattle.table.proofs.Accepted.{accepted}
-use Rattle.netlist.specs.Netlist.{Netlist, gateLine, lineCount, isRead, gateBytes, pairBytes, netWith, holdAt, fileWith, fileOf, netOf}
+use Rattle.netlist.specs.Netlist.{Netlist, gateLine, lineCount, gateBytes, pairBytes, netWith, fileWith, fileOf, netOf}
 use Rattle.netlist.specs.declared.Pair.{Pair}
 use Rattle.netlist.proofs.Written.{file-of}
 use Rattle.netlist.proofs.Files.{file-fields, file-length, length-gate-bytes, length-pair-bytes, gates-back, pairs-back}
@@ -25,8 +25,7 @@ use Rattle.rules.proofs.Pairs.{pairs-length}
 use Rattle.rules.proofs.Promises.{within-formulas, built-files-pass}
 use Rattle.stuck.specs.Inner.Findings.{ProbeReady, AcceptedDiagram}
 use Rattle.stuck.specs.Service.{oneHold}
-use Rattle.faults.proofs.Betrayed.{betrayed}
-use Rattle.stuck.proofs.OneHold.{one-held, held-line}
+use Rattle.stuck.proofs.OneHold.{one-held}
 
 -- The bytes of a netlist.
 module _ (net : Netlist) where
@@ -70,40 +69,38 @@ module _ (table : List ℕ) (yes! : Accepted table) where
         lamp-is = refl;
       }
 
-  findable-in : (hold : List ℕ) (room : ℕ) → oneHold (lineCount (tableBoard table)) hold ≡ Ordered →
-      isRead (tableBoard table) (holdAt hold 0 .line) ≡ true →
+  findable-in : (hold : List ℕ) (room : ℕ) → oneHold (gateLine (tableBoard table .contacts)) (lineCount (tableBoard table)) hold ≡ Ordered →
       length (fileOf (tableBoard table)) + lineCount (tableBoard table) ≤ room →
       ProbeReady (tableBoard table .contacts) gates pairs hold room
   unfolding boardOf
-  findable-in hold room o read fits =
+  findable-in hold room o fits =
       let net = tableBoard table in
       let s = accepted table (yes! .1) .sized in
-      let one = one-held (lineCount net) hold o in
-      let first = held-line (lineCount net) hold o in
+      let one = one-held (gateLine (net .contacts)) (lineCount net) hold o in
       let gate-count = length-gate-bytes (net .gates) in
       let pair-count = length-pair-bytes (net .pairs) in
       let outputs = pairs-length (diagramIn table) in
       let size = file-length net in
       let few = within-formulas table yes! .1 in
       let count : length gates / 5 ≡ length (net .gates) = omega arith in
-      let held : areHolds (gateLine (net .contacts) + length gates / 5) hold ≡ true = rw count (one .1) in
+      let held : areHolds (gateLine (net .contacts)) (gateLine (net .contacts) + length gates / 5) hold ≡ true = rw count (one .1) in
       record {
         writable = record {
-          lines = record { few = s .contacts .1; wired = gates-wired opened; one = one .0; held = held; fits = omega arith };
+          lines = record {
+            few = s .contacts .1;
+            many = omega arith;
+            wired = gates-wired opened;
+            one = one .0;
+            held = held;
+            fits = omega arith;
+          };
           bytes = (omega arith, omega (arith, s .outputs));
           fits = omega arith;
         };
-        searchable = record {
-          few = s .contacts .1;
-          fits = omega arith;
-          wired = gates-wired opened;
-          paired = outputs-wired opened;
-          value = first .bit;
-          seen = rw (net-is net refl) (betrayed table yes! (holdAt hold 0 .line) (holdAt hold 0 .value) (first .after) read (first .bit));
-        };
+        searchable = record { few = s .contacts .1; fits = omega arith; wired = gates-wired opened; paired = outputs-wired opened };
       }
 
--- The diagram of an accepted table: its limits, what it passes, and that a line of its board is found once no question refuses.
+-- The diagram of an accepted table: its limits, what it passes, and that its board is searched and written once no question refuses.
 module _ {d : Diagram} (a : AcceptedDiagram d) where
   pub sized : Sized d
   sized = rw (a .is) (accepted (a .table) (a .accepted .1) .sized)
@@ -111,9 +108,7 @@ module _ {d : Diagram} (a : AcceptedDiagram d) where
   pub reduced : Reduced d
   reduced = rw (a .is) (accepted (a .table) (a .accepted .1) .reduced)
 
-  pub findable : (hold : List ℕ) (room : ℕ) → oneHold (lineCount (boardOf d)) hold ≡ Ordered →
-      isRead (boardOf d) (holdAt hold 0 .line) ≡ true →
+  pub findable : (hold : List ℕ) (room : ℕ) → oneHold (gateLine (boardOf d .contacts)) (lineCount (boardOf d)) hold ≡ Ordered →
       length (fileOf (boardOf d)) + lineCount (boardOf d) ≤ room →
       ProbeReady (boardOf d .contacts) (gatesOn (boardOf d)) (pairsOn (boardOf d)) hold room
-  findable hold room o read fits =
-      rw (a .is) (findable-in (a .table) (a .accepted) hold room (rw (a .is) at o) (rw (a .is) at read) (rw (a .is) at fits))
+  findable hold room o fits = rw (a .is) (findable-in (a .table) (a .accepted) hold room (rw (a .is) at o) (rw (a .is) at fits))

@@ -1,13 +1,14 @@
 -- Question 14 for just one hold.
-use Prim.Native.Nat.{ℕ, _%_}
+use Prim.Native.Nat.{ℕ, _+_, _*_, _%_, _≤_, _<_}
 use native.Mathlib.Omega.{arith}
 use mathlib.Core.Path.{_≡_, refl}
-use mathlib.Core.Bool.{Bool, true, false, _&&_, cond}
+use mathlib.Core.Bool.{Bool, true, false, _&&_, _||_, cond}
 use mathlib.Core.List.{List, [], _∷_}
-use borrow.Author.Tests.{eqb-true}
-use lib.Dec.{eqb}
+use borrow.Author.Tests.{eqb-true, leb-true}
+use lib.Dec.{eqb, leb}
 use lib.ListN.{length}
-use Rattle.netlist.specs.Netlist.{holdAt, holdsOf}
+use Rattle.netlist.specs.declared.Hold.{Hold}
+use Rattle.netlist.specs.Netlist.{holdAt, holdsOf, siteOf}
 use Rattle.drive.specs.declared.Holds.{Holds}
 use Rattle.drive.specs.declared.Holds.the-variants.{Ordered, Disordered}
 use Rattle.fields.specs.Bounded.{listed}
@@ -21,9 +22,10 @@ unfolding holdsOf listed
 one-hold hold e = rw e
 
 -- A yes to question 14 for one hold.
-pub one-held : (lines : ℕ) (hold : List ℕ) → oneHold lines hold ≡ Ordered → (length hold ≡ 3) × (areHolds lines hold ≡ true)
+pub one-held : (first lines : ℕ) (hold : List ℕ) → oneHold first lines hold ≡ Ordered →
+    (length hold ≡ 3) × (areHolds first lines hold ≡ true)
 unfolding areOrdered
-one-held lines hold e = go (eqb (length hold) 3) (eqb (length hold % 3) 0) (areHolds lines hold) refl e
+one-held first lines hold e = go (eqb (length hold) 3) (eqb (length hold % 3) 0) (areHolds first lines hold) refl e
   where
     go : (a b c : Bool) → eqb (length hold) 3 ≡ a → cond (a && (b && c)) Ordered Disordered ≡ Ordered → (length hold ≡ 3) × (c ≡ true)
     go true true true t e = (eqb-true _ _ t, refl)
@@ -31,8 +33,16 @@ one-held lines hold e = go (eqb (length hold) 3) (eqb (length hold % 3) 0) (areH
     go true false c t e = absurd (let z : _≡_ {A = ℕ} 0 1 = cc in omega arith)
     go false b c t e = absurd (let z : _≡_ {A = ℕ} 0 1 = cc in omega arith)
 
-pub held-line : (lines : ℕ) (hold : List ℕ) → oneHold lines hold ≡ Ordered → HoldIn lines 1 (holdAt hold 0)
-held-line lines hold o = let one = one-held lines hold o in holds-at lines hold (one .1) 0 (omega arith)
+pub held-line : (first lines : ℕ) (hold : List ℕ) → oneHold first lines hold ≡ Ordered → HoldIn first lines 1 (holdAt hold 0)
+held-line first lines hold o = let one = one-held first lines hold o in holds-at first lines hold (one .1) 0 (omega arith)
+
+-- A held line is past the constants, and so is the line of a pin's gate.
+pub line-after : {first lines : ℕ} {h : Hold} → 2 ≤ first → HoldIn first lines 1 h → 2 ≤ h .line
+line-after {first} {h = h} l p = go (leb (h .value) 1) (p .after) (p .gate)
+  where
+    go : (b : Bool) → 1 < cond b (h .line) (65536 + 2 * h .line + siteOf h) → (b || leb first (h .line)) ≡ true → 2 ≤ h .line
+    go true after gate = omega arith
+    go false after gate = let from : first ≤ h .line = leb-true _ _ gate in omega arith
 
 pub ordered-zero : (h : Holds) → holdsNumber h ≡ 0 → h ≡ Ordered
 ordered-zero Ordered e = refl

@@ -1,7 +1,7 @@
 -- What probe returns and leaves, question by question.
 use Prim.Native.Nat.{ℕ, zero, suc, _+_, _*_}
 use mathlib.Core.Path.{_≡_, refl, sym, ap, ap₂, _∙_}
-use mathlib.Core.List.{List, [], _∷_, _++_}
+use mathlib.Core.List.{List, [], _∷_}
 use lib.ListN.{length}
 use Rattle.fields.specs.Refusals.{firstNo}
 use Rattle.fields.proofs.Refusals.{first-no}
@@ -10,22 +10,21 @@ use Rattle.table.specs.declared.reading.Table.{Table}
 use Rattle.table.specs.Table.{tableRefusal}
 use Rattle.table.specs.Inner.Read.{tableOf}
 use Rattle.table.proofs.Tables.{table-refusal}
+use Rattle.drive.specs.declared.Holds.{Holds}
 use Rattle.drive.specs.declared.Holds.the-variants.{Ordered, Disordered}
 use Rattle.files.specs.declared.room.Room.the-variants.{Enough, Short}
-use Rattle.netlist.specs.Netlist.{Netlist, gateLine, lineCount, holdAt, fileOf}
+use Rattle.netlist.specs.Netlist.{Netlist, gateLine, lineCount, holdAt, fileWith, fileOf, netOf}
 use Rattle.drive.specs.Questions.{holdsNumber}
-use Rattle.files.specs.Room.{over, roomOf, roomNumber}
+use Rattle.files.specs.Room.{roomOf, roomNumber}
 use Rattle.files.proofs.Buffers.{enough}
 use Rattle.rules.specs.Board.{boardOf}
 use Rattle.synthesis.proofs.Services.{Unrefused, length-is}
 use Rattle.stuck.specs.declared.answer.Probed.{Probed}
-use Rattle.faults.specs.Betrayal.{stuckAt, smallestInput}
-use Rattle.stuck.specs.Inner.Findings.{ProbeReady, FoundAndWritten, AcceptedDiagram}
+use Rattle.stuck.specs.Inner.Findings.{ProbeReady, AcceptedDiagram}
 use Rattle.stuck.specs.declared.fanout.Fanout.{Fanout}
 use Rattle.stuck.specs.declared.fanout.Fanout.the-variants.{Read, Unread}
-use Rattle.stuck.specs.Service.{oneHold, fanoutOf, fanoutNumber, boardAnswers, Probing, probeRefusal, foundAt, refusedProbe, probingOf}
+use Rattle.stuck.specs.Service.{oneHold, fanoutOf, fanoutNumber, boardAnswers, Probing, probeRefusal, refusedProbe, probingWith, probingOf}
 use Rattle.stuck.specs.Inner.Probing.{probingOn}
-use Rattle.stuck.proofs.Fanouts.{read-zero}
 use Rattle.stuck.proofs.Boards.{gatesOn, pairsOn, net-is, file-is, lampless, sized, findable}
 
 abbrev probing : Probed → List ℕ → Probing Probed
@@ -83,30 +82,33 @@ module _ {d : Diagram} (drawn : AcceptedDiagram d) {made : ℕ} (count : made �
     abbrev number : ℕ
     number = firstNo (boardAnswers (boardOf d) hold (length buffer))
 
+    abbrev order : Holds
+    order = oneHold (gateLine (d .contacts)) lines hold
+
     abbrev fanout : Fanout
     fanout = fanoutOf (boardOf d) (holdAt hold 0 .line)
 
-    abbrev numbered : ℕ → ℕ → ℕ
-    numbered lines size =
+    abbrev numbered : ℕ → ℕ → ℕ → ℕ
+    numbered n lines size =
         firstNo
-        (holdsNumber (oneHold lines hold) ∷ fanoutNumber fanout ∷ roomNumber (roomOf (size + lines) (length buffer)) ∷ [])
+        (holdsNumber (oneHold (gateLine n) lines hold) ∷ fanoutNumber fanout ∷ roomNumber (roomOf (size + lines) (length buffer)) ∷ [])
 
-    asked : number ≡ numbered lines (10 + 5 * made + 4 * d .outputs)
-    asked = ap₂ numbered (sym lines-are) (sym size-is)
+    asked : number ≡ numbered (d .contacts) lines (10 + 5 * made + 4 * d .outputs)
+    asked = λ i. numbered (sym contacts-are i) (sym lines-are i) (sym size-is i)
 
     stopped : (k : ℕ) {r : Probed} → number ≡ suc k → r ≡ refusedProbe (suc k) → ProbeLeavesOn (boardOf d) hold buffer r buffer
     stopped k e a = rw e (ap (λ (r : Probed). probing r buffer) a)
 
-    pub disordered : {r : Probed} → oneHold lines hold ≡ Disordered → r ≡ refusedProbe 14 → ProbeLeavesOn (boardOf d) hold buffer r buffer
+    pub disordered : {r : Probed} → order ≡ Disordered → r ≡ refusedProbe 14 → ProbeLeavesOn (boardOf d) hold buffer r buffer
     unfolding firstNo
     disordered o = stopped 13 (asked ∙ rw o)
 
-    pub unread : {r : Probed} → oneHold lines hold ≡ Ordered → fanout ≡ Unread → r ≡ refusedProbe 15 →
+    pub unread : {r : Probed} → order ≡ Ordered → fanout ≡ Unread → r ≡ refusedProbe 15 →
         ProbeLeavesOn (boardOf d) hold buffer r buffer
     unfolding firstNo
     unread o f = stopped 14 (asked ∙ rw (o, f))
 
-    module _ (o : oneHold lines hold ≡ Ordered) (f : fanout ≡ Read) where
+    module _ (o : order ≡ Ordered) (f : fanout ≡ Read) where
       pub short : {r : Probed} → roomOf wanted (length buffer) ≡ Short → r ≡ refusedProbe 9 → ProbeLeavesOn (boardOf d) hold buffer r buffer
       unfolding firstNo
       short e = stopped 8 (asked ∙ rw (o, f, e))
@@ -114,22 +116,20 @@ module _ {d : Diagram} (drawn : AcceptedDiagram d) {made : ℕ} (count : made �
       module _ {gates pairs : List ℕ} (g : gates ≡ gatesOn (boardOf d)) (p : pairs ≡ pairsOn (boardOf d))
           (e : roomOf wanted (length buffer) ≡ Enough) where
         pub ready : ProbeReady (d .contacts) gates pairs hold (length buffer)
+        unfolding boardOf
         ready =
-            rw (contacts-are, g, p)
-            (findable drawn hold (length buffer) (rw lines-are at o) (read-zero _ (ap fanoutNumber f))
+            rw (g, p)
+            (findable drawn hold (length buffer) (rw lines-are at o)
             (rw (← lines-are, ← size-is) (enough wanted (length buffer) e)))
 
-        pub found : {r : Probed} {after : List ℕ} → FoundAndWritten (d .contacts) gates pairs hold buffer r after → ProbeLeavesOn (boardOf d) hold buffer r after
+        pub found : {r : Probed} {after : List ℕ} →
+            probing r after ≡ probingWith (fileWith (d .contacts) gates pairs []) (netOf (d .contacts) gates pairs) (holdAt hold 0) buffer →
+            ProbeLeavesOn (boardOf d) hold buffer r after
         unfolding firstNo
         found w =
             let net = boardOf d in
-            let h = holdAt hold 0 in
-            let w' : FoundAndWritten (net .contacts) (gatesOn net) (pairsOn net) hold buffer _ _ = rw (contacts-are, g, p) at w in
             let none : number ≡ 0 = asked ∙ rw (o, f, e) in
             rw none
-            (ap₂ probing
-            (w' .answered
-            ∙ ap (λ (net : Netlist). foundAt (net .pairs) (smallestInput net h) (stuckAt net h (smallestInput net h))) (net-is net (lampless d)))
-            (w' .written
-            ∙ ap₂ (λ (file : List ℕ) (net : Netlist). over (file ++ stuckAt net h (smallestInput net h)) buffer) (file-is net (lampless d))
-            (net-is net (lampless d))))
+            (rw (contacts-are, g, p) at w
+            ∙ ap₂ (λ (file : List ℕ) (net : Netlist). probingWith file net (holdAt hold 0) buffer) (file-is net (lampless d))
+            (net-is net (lampless d)))

@@ -4,15 +4,14 @@ use mathlib.Core.Path.{_≡_, refl, sym, ap, _∙_}
 use mathlib.Core.Bool.{true}
 use mathlib.Core.List.{List}
 use lib.ListN.{length, getD}
-use Rattle.fields.specs.Bounded.{any}
 use Rattle.netlist.specs.declared.Hold.{Hold}
 use Rattle.netlist.specs.declared.Pair.{Pair}
-use Rattle.netlist.specs.Netlist.{numberAt, pairsOf, netOf}
+use Rattle.netlist.specs.Netlist.{Netlist, numberAt, pairsOf}
 use Rattle.netlist.proofs.Lists.{getD-pairs}
 use Rattle.stuck.specs.declared.answer.Probed.{Probed}
 use Rattle.stuck.specs.declared.answer.Way.{Way}
 use Rattle.stuck.specs.declared.answer.Way.the-variants.{BothHigh}
-use Rattle.faults.specs.Betrayal.{stuckAt, someNoCode, betrays, smallestInput, lowestNoCode}
+use Rattle.faults.specs.Betrayal.{stuckAt, someNoCode, betrays, isSeen, smallestInput, lowestNoCode}
 use Rattle.stuck.specs.Service.{wayOf, foundAt}
 use Rattle.fields.proofs.Least.{least-first}
 
@@ -34,9 +33,7 @@ found-by pairs vs input output on way l o e w =
     ap (found input output) (w ∙ ap wayOf (e ∙ ap (λ (p : Pair). getD vs (p .on) 0) (sym (getD-pairs pairs output none l))))
     ∙ ap (λ (j : ℕ). found input j (shown j)) o
 
-module _ (n : ℕ) (gates pairs : List ℕ) where
-  -- At the smallest betraying input some pair shows no code.
-  pub betrayed-there : (h : Hold) → any (2 ^ n) (betrays (netOf n gates pairs) h) ≡ true →
-      someNoCode (pairsOf pairs) (stuckAt (netOf n gates pairs) h (smallestInput (netOf n gates pairs) h)) ≡ true
-  unfolding betrays
-  betrayed-there h seen = least-first (betrays (netOf n gates pairs) h) (2 ^ n) seen .passes
+-- At the smallest betraying input some pair shows no code.
+pub betrayed-there : (net : Netlist) (h : Hold) → isSeen net h ≡ true → someNoCode (net .pairs) (stuckAt net h (smallestInput net h)) ≡ true
+unfolding isSeen betrays
+betrayed-there net h seen = least-first (betrays net h) (2 ^ net .contacts) seen .passes

@@ -11,7 +11,7 @@ pub fn show(netlist: &[u8], case: &[u8]) {
     let pairs_len = spelling::number(case, 5, 10610);
     let mut lines = [b'.'; 10610];
     let mut pairs = [b'.'; 10610];
-    let refusal = simulation::run(
+    let refusal = run::run(
         netlist,
         reader::nth(case, 4),
         reader::nth(case, 3),

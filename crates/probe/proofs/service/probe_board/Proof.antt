@@ -20,7 +20,7 @@ use Rattle.stuck.specs.Inner.Findings.{AcceptedDiagram}
 use Rattle.stuck.specs.declared.fanout.Fanout.the-variants.{Read}
 use Rattle.stuck.specs.Service.{oneHold, fanoutOf}
 use Rattle.stuck.proofs.Boards.{gatesOn, pairsOn, sized, reduced}
-use Rattle.stuck.proofs.OneHold.{one-held, held-line}
+use Rattle.stuck.proofs.OneHold.{one-held, held-line, line-after}
 use Rattle.stuck.proofs.Outcomes.{lines-are, disordered, unread, short, ready, found}
 use Rattle.probe.proofs.service.probe_board.Statement.{statement}
 use Rattle.probe.proofs.service.probe_board.Tie as tie
@@ -54,14 +54,17 @@ gates-taken c = taken-gates _ (within c) (c .synthesise .ensures .0) _ (start c 
 pairs-taken : (c : tie.After-synthesise) → take (4 * diagram c .outputs) (c .synthesise .last .1 .1 .0) ≡ pairsOn (boardOf (diagram c))
 pairs-taken c = taken-pairs _ (within c) (c .synthesise .ensures .0) _ (omega arith) (c .synthesise .ensures .1 .1)
 
--- The number of lines, and question 14's yes.
+-- The line of the first gate, the number of lines, and question 14's yes.
 abbrev made : tie.After-enum-told → tie.After-synthesise
 made c = c .before .before .before .before .before .before
 
-abbrev lines : tie.After-synthesise → ℕ
-lines c = gateLine (diagram c .contacts) + c .synthesise .result
+abbrev first : tie.After-synthesise → ℕ
+first c = gateLine (diagram c .contacts)
 
-ordered : (c : tie.After-enum-told) → oneHold (lines (made c)) (start (made c) .args .hold .now) ≡ Ordered
+abbrev lines : tie.After-synthesise → ℕ
+lines c = first c + c .synthesise .result
+
+ordered : (c : tie.After-enum-told) → oneHold (first (made c)) (lines (made c)) (start (made c) .args .hold .now) ≡ Ordered
 ordered c = sym (c .before .before .ask-one-hold .ensures) ∙ c .enum-told .given .1
 
 -- The held line, and question 15's answer about it.
@@ -71,8 +74,8 @@ bytes c = start (made c) .args .hold .now
 abbrev hold : tie.After-enum-told → Hold
 hold c = holdAt (bytes c) 0
 
-holds : (c : tie.After-enum-told) → HoldIn (lineCount (boardOf (diagram (made c)))) 1 (hold c)
-holds c = held-line _ (bytes c) (rw (lines-are (drawn (made c)) (made c .synthesise .ensures .0)) at (ordered c))
+holds : (c : tie.After-enum-told) → HoldIn (first (made c)) (lineCount (boardOf (diagram (made c)))) 1 (hold c)
+holds c = held-line _ _ (bytes c) (rw (lines-are (drawn (made c)) (made c .synthesise .ensures .0)) at (ordered c))
 
 answered : (c : tie.After-ask-fanout) →
     let question = c .before .before in
@@ -108,14 +111,14 @@ synthesise-requires c κs =
     let s = sized (pre .0) in
     (s, reduced (pre .0) .ranged, pre .1, omega (arith, s .outputs))
 
-mul-lines : tie.Need-mul-lines
-mul-lines c = omega (arith, within (c .before .before .before) .contacts)
+mul-first : tie.Need-mul-first
+mul-first c = omega (arith, within (c .before .before .before) .contacts)
+
+add-first : tie.Need-add-first
+add-first c = omega (arith, within (c .before .before .before) .contacts)
 
 add-lines : tie.Need-add-lines
-add-lines c = omega (arith, within (c .before .before .before) .contacts)
-
-add-lines-2 : tie.Need-add-lines-2
-add-lines-2 c = let board = c .before .before .before in omega (arith, within board .contacts, few board)
+add-lines c = let board = c .before .before .before in omega (arith, within board .contacts, few board)
 
 ask-one-hold-requires : tie.Need-ask-one-hold-requires
 ask-one-hold-requires c κs = search needs
@@ -141,7 +144,7 @@ returns c =
     (c .refused .ensures)
 
 number-at-requires : tie.Need-number-at-requires
-number-at-requires c κs = let one = one-held (lines (made c)) (bytes c) (ordered c) in omega (arith, one .0)
+number-at-requires c κs = let one = one-held (first (made c)) (lines (made c)) (bytes c) (ordered c) in omega (arith, one .0)
 
 cast-line : tie.Need-cast-line
 cast-line c = search needs
@@ -150,7 +153,7 @@ ask-fanout-requires : tie.Need-ask-fanout-requires
 ask-fanout-requires c κs =
     let h = holds (c .before) in
     let line = c .number-at .ensures in
-    (drawn (made (c .before)), rw line (h .after), rw line (h .within))
+    (drawn (made (c .before)), rw line (line-after (omega arith) h), rw line (h .within))
 
 enum-told-3 : tie.Need-enum-told-3
 enum-told-3 c = search needs
@@ -242,7 +245,7 @@ returns-4 c =
     let room = c .before .before .before .before .before .before in
     let line = held room in
     let b = board line in
-    found (drawn b) (b .synthesise .ensures .0) _ _ (ordered (told line)) (read line) (gates-taken b) (pairs-taken b)
+    found (drawn b) (b .synthesise .ensures .0) (bytes (told line)) (start b .args .buffer .now) (ordered (told line)) (read line) (gates-taken b) (pairs-taken b)
     (roomy room) (c .before .before .find .ensures)
 
 pub probe-board-spec : {M : Type 1} → statement M
@@ -251,9 +254,9 @@ probe-board-spec =
     (tie.spec
     slice-aggregate-synthesise
     synthesise-requires
-    mul-lines
+    mul-first
+    add-first
     add-lines
-    add-lines-2
     ask-one-hold-requires
     enum-told
     enum-told-2

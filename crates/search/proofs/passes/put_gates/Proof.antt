@@ -5,19 +5,20 @@ use native.Mathlib.Omega.{arith}
 use mathlib.Core.Path.{_≡_}
 use lib.ListN.{length}
 use Rattle.netlist.specs.Netlist.{gatesOf}
+use Rattle.batches.specs.Inner.Batches.{holdOf}
 use Rattle.search.proofs.GateBatches.{MadeBatches, none-made, more-made, left-in, right-in}
 use Rattle.search.proofs.passes.put_gates.Statement.{statement}
 use Rattle.search.proofs.passes.put_gates.Tie as tie
 
 abbrev Inv-loop : tie.InvT-loop
-Inv-loop gates sources first line batch low₀ high₀ g₀ g-end low high g =
-    (g ≤ g-end) × MadeBatches gates first line batch low₀ low g × MadeBatches gates first line batch high₀ high g
+Inv-loop gates sources first line value low₀ high₀ g₀ g-end low high g =
+    (g ≤ g-end) × MadeBatches gates first (holdOf line value) low₀ low g × MadeBatches gates first (holdOf line value) high₀ high g
 
 abbrev μ-loop : tie.MeasureT-loop
-μ-loop gates sources first line batch low₀ high₀ g₀ g-end low high g = g-end - g
+μ-loop gates sources first line value low₀ high₀ g₀ g-end low high g = g-end - g
 
 loop-holds : tie.Need-loop-holds Inv-loop μ-loop
-loop-holds c = (omega arith, none-made _ _ _ _ _, none-made _ _ _ _ _)
+loop-holds c = (omega arith, none-made _ _ _ _, none-made _ _ _ _)
 
 mul-kind : tie.Need-mul-kind Inv-loop μ-loop
 mul-kind c = search needs
@@ -73,9 +74,9 @@ loop-again c =
     let here = c .before .before .before .before .before .before in
     let start = here .before .before .before .before .before in (
       omega arith,
-      more-made _ _ _ _ _ _ (here .loop .low) (here .loop .g) _ (start .pre .0) (omega arith) (c .before .before .gate-batch .ensures)
+      more-made _ _ _ _ _ (here .loop .low) (here .loop .g) _ (start .pre .0) (omega arith) (c .before .before .gate-batch .ensures)
           (here .loop .inv .1),
-      more-made _ _ _ _ _ _ (here .loop .high) (here .loop .g) _ (start .pre .1) (omega arith) (c .gate-batch2 .ensures)
+      more-made _ _ _ _ _ (here .loop .high) (here .loop .g) _ (start .pre .1) (omega arith) (c .gate-batch2 .ensures)
           (here .loop .inv .2),
     )
 

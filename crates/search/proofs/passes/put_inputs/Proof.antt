@@ -8,7 +8,7 @@ use lib.ListN.{length-set}
 use Rattle.diagram.specs.Diagram.{inputOf}
 use Rattle.simulation.specs.Run.{rail, workOut}
 use Rattle.rules.specs.Code.{codeRails}
-use Rattle.batches.specs.Inner.Batches.{ruleOf}
+use Rattle.batches.specs.Inner.Batches.{holdOf, ruleOf}
 use Rattle.search.proofs.Lines.{constants}
 use Rattle.search.proofs.passes.put_inputs.Statement.{statement}
 use Rattle.search.proofs.passes.put_inputs.Tie as tie
@@ -30,7 +30,7 @@ returns c =
     let args = c .before .before .before .before .before .args in
     λ k l.
     c .before .before .put-rails .ensures k l
-    ∙ ap (workOut (ruleOf (args .line) (args .batch) k) (map rail (codeRails (args .n) (inputOf (args .base + k)))))
+    ∙ ap (workOut (ruleOf (holdOf (args .line) (args .value))) (map rail (codeRails (args .n) (inputOf (args .base + k)))))
     (constants k (args .batches .now) l (omega arith))
 
 pub put-inputs-spec : {M : Type 1} → statement M

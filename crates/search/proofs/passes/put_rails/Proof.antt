@@ -9,22 +9,31 @@ use Rattle.diagram.specs.Diagram.{inputOf}
 use Rattle.netlist.specs.Netlist.{gateLine}
 use Rattle.simulation.specs.Run.{rail, workOut}
 use Rattle.rules.specs.Code.{codeRails}
-use Rattle.batches.specs.Inner.Batches.{ruleOf}
+use Rattle.batches.specs.Inner.Batches.{holdOf, ruleOf}
 use Rattle.bits.specs.Inner.Bits.{bitsOf}
 use Rattle.search.proofs.Lines.{rails-more}
 use Rattle.search.proofs.passes.put_rails.Statement.{statement}
 use Rattle.search.proofs.passes.put_rails.Tie as tie
 
 abbrev Inv-loop : tie.InvT-loop
-Inv-loop n base line batch batches₀ i₀ batches i =
+Inv-loop n base line value batches₀ held batch i₀ batches i =
     (i ≤ n)
     × (length batches ≡ length batches₀)
     × ((k : ℕ) → k < 64 →
     bitsOf k (take (gateLine i) batches)
-    ≡ workOut (ruleOf line batch k) (map rail (codeRails i (inputOf (base + k)))) (bitsOf k (take 2 batches₀)))
+    ≡ workOut (ruleOf (holdOf line value)) (map rail (codeRails i (inputOf (base + k)))) (bitsOf k (take 2 batches₀)))
 
 abbrev μ-loop : tie.MeasureT-loop
-μ-loop n base line batch batches₀ i₀ batches i = n - i
+μ-loop n base line value batches₀ held batch i₀ batches i = n - i
+
+abbrev start-of : tie.After-same-batch Inv-loop μ-loop → tie.Start Inv-loop μ-loop
+start-of c = c .before .before .before
+
+held-line-requires : tie.Need-held-line-requires Inv-loop μ-loop
+held-line-requires c κs = search needs
+
+same-batch-requires : tie.Need-same-batch-requires Inv-loop μ-loop
+same-batch-requires c κs = omega arith
 
 loop-holds : tie.Need-loop-holds Inv-loop μ-loop
 unfolding codeRails workOut
@@ -69,11 +78,16 @@ loop-less c = search needs
 loop-again : tie.Need-loop-again Inv-loop μ-loop
 loop-again c =
     let turn = c .before .before in
-    let here = turn .before .before in (
+    let here = turn .before .before in
+    let level = here .before in
+    let args = start-of level .args in (
       omega arith,
       simp length-set (here .loop .inv .1),
       λ k l.
-          rails-more k _ _ (here .loop .batches) _ (inputOf (here .before .before .args .base + k)) (here .loop .i) _ _ _ (omega arith) l
+          rails-more k (holdOf (args .line) (args .value)) (here .loop .batches) _ (inputOf (args .base + k)) (here .loop .i) _ _ _ _ _
+          (omega arith) l
+          (level .before .held-line .ensures)
+          (level .same-batch .ensures k l)
           (turn .rail-batch .ensures k l)
           (c .before .show-batch .ensures)
           (c .show-batch2 .ensures)
@@ -86,7 +100,7 @@ same-length c = search needs
 returns : tie.Need-returns Inv-loop μ-loop
 returns c =
     let here = c .before in
-    let e : here .loop .i ≡ here .before .before .args .n = omega arith in
+    let e : here .loop .i ≡ start-of (here .before) .args .n = omega arith in
     λ k l. rw e at (here .loop .inv .2 k l)
 
 pub put-rails-spec : {M : Type 1} → statement M
@@ -95,6 +109,8 @@ put-rails-spec =
     (tie.spec
     Inv-loop
     μ-loop
+    held-line-requires
+    same-batch-requires
     loop-holds
     mul-at
     add-at

@@ -1,17 +1,13 @@
 -- `passes::show_source` meets its contract, by cases on the line.
-use borrow.Author.Needs.{needs}
 use borrow.Author.Tests.{eq-eqb, ne-eqb}
 use Rattle.search.proofs.passes.show_source.Statement.{statement}
 use Rattle.search.proofs.passes.show_source.Tie as tie
 
-wide-requires : tie.Need-wide-requires
-wide-requires c κs = search needs
-
 returns : tie.Need-returns
-returns c = simp (eq-eqb _ _ (c .before .if1 .taken)) (c .wide .ensures)
+returns c = simp (eq-eqb _ _ (c .if1 .taken))
 
 returns-2 : tie.Need-returns-2
 returns-2 c = simp (ne-eqb _ _ (c .if1 .left))
 
 pub show-source-spec : {M : Type 1} → statement M
-show-source-spec = tie.close (tie.spec wide-requires returns returns-2)
+show-source-spec = tie.close (tie.spec returns returns-2)

@@ -2,19 +2,32 @@
 use borrow.Author.Needs.{needs}
 use Prim.Native.Nat.{_+_, _-_, _/_, _≤_}
 use native.Mathlib.Omega.{arith}
-use mathlib.Core.Path.{_≡_, refl, ap, _∙_}
+use mathlib.Core.Path.{_≡_, refl}
 use lib.ListN.{length, length-set}
-use Rattle.batches.specs.Inner.Batches.{heldBatch, SourcesTaken}
+use Rattle.batches.specs.Inner.Batches.{holdOf, SourcesTaken}
+use Rattle.search.proofs.Sites.{taken}
 use Rattle.search.proofs.Sources.{sources-more}
 use Rattle.search.proofs.passes.take_sources.Statement.{statement}
 use Rattle.search.proofs.passes.take_sources.Tie as tie
 
 abbrev Inv-loop : tie.InvT-loop
-Inv-loop gates first line value sources₀ g₀ g-end sources g =
-    (g ≤ g-end) × (length sources ≡ length sources₀) × SourcesTaken first line value g gates sources
+Inv-loop gates first line value sources₀ left right level g₀ g-end sources g =
+    (g ≤ g-end) × (length sources ≡ length sources₀) × SourcesTaken first (holdOf line value) g gates sources
 
 abbrev μ-loop : tie.MeasureT-loop
-μ-loop gates first line value sources₀ g₀ g-end sources g = g-end - g
+μ-loop gates first line value sources₀ left right level g₀ g-end sources g = g-end - g
+
+abbrev start-of : tie.After-wide Inv-loop μ-loop → tie.Start Inv-loop μ-loop
+start-of c = c .before .before .before .before .before
+
+held-line-requires : tie.Need-held-line-requires Inv-loop μ-loop
+held-line-requires c κs = search needs
+
+held-line-requires-2 : tie.Need-held-line-requires-2 Inv-loop μ-loop
+held-line-requires-2 c κs = search needs
+
+wide-requires : tie.Need-wide-requires Inv-loop μ-loop
+wide-requires c κs = search needs
 
 loop-holds : tie.Need-loop-holds Inv-loop μ-loop
 loop-holds c =
@@ -74,13 +87,17 @@ loop-less c = search needs
 loop-again : tie.Need-loop-again Inv-loop μ-loop
 loop-again c =
     let here = c .before .before .before .before .before in
-    let args = here .before .before .before .args in
-    let shows = heldBatch (args .line) (args .value) (args .first + here .loop .g) in (
+    let level = here .before in
+    let start = start-of level in
+    let h = holdOf (start .args .line) (start .args .value) in
+    let high : 2 ≤ start .args .first + here .loop .g = omega (arith, start .pre .0) in (
       omega arith,
       simp length-set (here .loop .inv .1),
-      sources-more _ _ _ (args .gates .now) (here .loop .sources) (here .loop .g) _ _ (omega arith)
-          (c .before .before .show-source .ensures ∙ ap shows (c .before .before .before .number-at .ensures))
-          (c .show-source2 .ensures ∙ ap shows (c .before .number-at2 .ensures))
+      sources-more _ h (start .args .gates .now) (here .loop .sources) (here .loop .g) _ _ (omega arith)
+          (taken h _ 1 _ high (level .before .before .held-line .ensures) (level .wide .ensures) (c .before .before .before .number-at .ensures)
+          (c .before .before .show-source .ensures))
+          (taken h _ 2 _ high (level .before .held-line2 .ensures) (level .wide .ensures) (c .before .number-at2 .ensures)
+          (c .show-source2 .ensures))
           (here .loop .inv .2),
     )
 
@@ -90,7 +107,7 @@ same-length c = search needs
 returns : tie.Need-returns Inv-loop μ-loop
 returns c =
     let here = c .before in
-    let e : here .loop .g ≡ length (here .before .before .before .args .gates .now) / 5 = omega arith in
+    let e : here .loop .g ≡ length (start-of (here .before) .args .gates .now) / 5 = omega arith in
     rw e at (here .loop .inv .2)
 
 pub take-sources-spec : {M : Type 1} → statement M
@@ -99,6 +116,9 @@ take-sources-spec =
     (tie.spec
     Inv-loop
     μ-loop
+    held-line-requires
+    held-line-requires-2
+    wide-requires
     loop-holds
     mul-from
     mul-to

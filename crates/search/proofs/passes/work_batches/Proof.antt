@@ -2,12 +2,11 @@
 use borrow.Author.Needs.{needs}
 use Prim.Native.Nat.{_+_}
 use native.Mathlib.Omega.{arith}
-use mathlib.Core.Path.{sym, ap, _∙_}
+use mathlib.Core.Path.{ap, _∙_}
 use mathlib.Core.List.{map}
-use Rattle.netlist.specs.Netlist.{gateLine, gatesOf}
+use Rattle.netlist.specs.Netlist.{gateLine, gatesOf, levelOf}
 use Rattle.simulation.specs.Run.{gate, workOut}
 use Rattle.batches.specs.Inner.Batches.{holdOf, ruleOf}
-use Rattle.bits.specs.Inner.Bits.{bitOf}
 use Rattle.search.proofs.Lines.{run-parts}
 use Rattle.search.proofs.GateBatches.{constant-held}
 use Rattle.search.proofs.passes.work_batches.Statement.{statement}
@@ -40,18 +39,16 @@ put-gates-requires c κs =
         fits = omega (arith, low .put-inputs .kept .1 .1 .1 .1 .0, work .0 .fits);
         wired = work .0 .wired;
         sourced = work .0 .sourced;
-        held = λ k l.
-            constant-held k _ _ _ (gateLine (args .n)) (bitOf 0 (args .batch)) (omega arith) (omega arith) (low .put-inputs .ensures k l)
-            ∙ sym (work .0 .same k l);
+        constant = λ k l.
+            constant-held k _ _ _ (gateLine (args .n)) (levelOf (holdOf (args .line) (args .value))) (omega arith) (omega arith) (low .put-inputs .ensures k l);
       },
       record {
         after = omega arith;
         fits = omega (arith, high .put-inputs2 .kept .1 .1 .1 .1 .0, work .1 .fits);
         wired = work .1 .wired;
         sourced = work .1 .sourced;
-        held = λ k l.
-            constant-held k _ _ _ (gateLine (args .n)) (bitOf 0 (args .batch)) (omega arith) (omega arith) (high .put-inputs2 .ensures k l)
-            ∙ sym (work .1 .same k l);
+        constant = λ k l.
+            constant-held k _ _ _ (gateLine (args .n)) (levelOf (holdOf (args .line) (args .value))) (omega arith) (omega arith) (high .put-inputs2 .ensures k l);
       },
     )
 
@@ -70,12 +67,12 @@ returns c =
     let gates = args .gates .now in (
       λ k l.
           made .put-gates .ensures .0 k l
-          ∙ ap (workOut (ruleOf (args .line) (args .batch) k) (map gate (gatesOf gates))) (low .put-inputs .ensures k l)
-          ∙ run-parts (args .n) gates (holdOf (args .line) (args .batch) k) (args .base + k),
+          ∙ ap (workOut (ruleOf (holdOf (args .line) (args .value))) (map gate (gatesOf gates))) (low .put-inputs .ensures k l)
+          ∙ run-parts (args .n) gates (holdOf (args .line) (args .value)) (args .base + k),
       λ k l.
           made .put-gates .ensures .1 k l
-          ∙ ap (workOut (ruleOf (args .line) (args .batch) k) (map gate (gatesOf gates))) (high .put-inputs2 .ensures k l)
-          ∙ run-parts (args .n) gates (holdOf (args .line) (args .batch) k) (args .base + 64 + k),
+          ∙ ap (workOut (ruleOf (holdOf (args .line) (args .value))) (map gate (gatesOf gates))) (high .put-inputs2 .ensures k l)
+          ∙ run-parts (args .n) gates (holdOf (args .line) (args .value)) (args .base + 64 + k),
     )
 
 pub work-batches-spec : {M : Type 1} → statement M

@@ -1,0 +1,5 @@
+// The lines of a netlist worked out, with lines and pins held.
+mod lines;
+mod ranks;
+
+pub use lines::work_out;

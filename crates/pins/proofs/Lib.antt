@@ -1,0 +1,4 @@
+pub mod Runs
+pub mod LowPins
+pub mod Raising
+pub mod HighPins

@@ -1,0 +1,1 @@
+// Which stuck pins of boards are hidden: specs/ and proofs/.
