@@ -104,34 +104,65 @@ void hold_lines(unsigned percent)
     uint8_t *at = job.holds;
     for (unsigned line = 2; line < job.lines; line++)
         if (chance(&dice, percent)) {
-            at = put_two(at, line);
-            *at++ = (uint8_t)roll(&dice, 2);
+            set_hold(at, line, roll(&dice, 2));
+            at += 3;
         }
     job.holds_length = (size_t)(at - job.holds);
 }
 
-void set_hold(struct job *j, unsigned line, unsigned value)
+/* Dice of their own, so that the other files are what they are without holds of pins. */
+static struct dice pin_dice = {1};
+
+void hold_pins(unsigned percent, unsigned pins)
 {
-    put_two(j->hold, line);
-    j->hold[2] = (uint8_t)value;
+    uint8_t *at = job.holds;
+    for (unsigned line = job.lines - job.gates; line < job.lines; line++)
+        for (unsigned pin = 0; pin < pins; pin++)
+            if (chance(&pin_dice, percent)) {
+                set_hold(at, line, 2 + 2 * pin + roll(&pin_dice, 2));
+                at += 3;
+            }
+    job.holds_length = (size_t)(at - job.holds);
+}
+
+void set_hold(uint8_t hold[3], unsigned line, unsigned value)
+{
+    *put_two(hold, line) = (uint8_t)value;
+}
+
+static pilgodur_probed probe(void)
+{
+    static uint8_t buffer[BUFFER];
+    return pilgodur_probe(job.table, job.table_length, job.hold, 3, buffer, BUFFER);
 }
 
 uint32_t hold_latest_line(void)
 {
-    static uint8_t buffer[BUFFER];
     uint32_t latest = 0;
     uint8_t found[3] = {0, 2, 0};
     for (unsigned line = 2; line < job.lines; line++)
         for (unsigned value = 0; value < 2; value++) {
-            set_hold(&job, line, value);
-            pilgodur_probed p = pilgodur_probe(job.table, job.table_length, job.hold, 3, buffer, BUFFER);
-            if (p.input > latest) {
-                latest = p.input;
+            set_hold(job.hold, line, value);
+            uint32_t input = probe().input;
+            if (input > latest) {
+                latest = input;
                 memcpy(found, job.hold, 3);
             }
         }
     memcpy(job.hold, found, 3);
     return latest;
+}
+
+/* Tries the first pins of the ANDs, held at 1. */
+void hold_hidden_pin(void)
+{
+    const uint8_t *kind = job.netlist + 7;
+    for (unsigned line = job.lines - job.gates; line < job.lines; line++, kind += 5) {
+        set_hold(job.hold, line, 3);
+        if (*kind == 0 && probe().way == PILGODUR_WAY_HIDDEN)
+            return;
+    }
+    abort();
 }
 
 static void use_drawing(const struct drawing *d)

@@ -15,7 +15,7 @@ struct job {
     uint8_t netlist[PILGODUR_FILE_MAX];
     size_t netlist_length;
     uint8_t rails[24];
-    uint8_t holds[3 * PILGODUR_LINES_MAX];
+    uint8_t holds[3 * 2 * PILGODUR_LINES_MAX]; /* of all lines, or of all pins */
     size_t holds_length;
     uint8_t hold[3];
     uint8_t drawing[DRAWING_MAX];
@@ -30,21 +30,23 @@ struct job {
 extern struct dice dice;
 extern struct job job;
 
-/* The board of the largest diagram with so many contacts, and of one drawn at random; no contact is spare. No line is held. */
+/* The board of the largest diagram with so many contacts, and of one drawn at random; no contact is spare. Nothing is held. */
 void use_largest_board(unsigned contacts);
 void use_random_board(unsigned contacts, unsigned outputs);
 
 /* A board with an output that is the AND of all contacts: a line that shows at the last input alone. */
 void use_shy_board(unsigned contacts);
 
-/* A netlist of 12 contacts and 8 outputs with any sources; it has no table. No line is held. */
+/* A netlist of 12 contacts and 8 outputs with any sources; it has no table. Nothing is held. */
 void use_random_netlist(unsigned gates);
 
-/* Holds each line with this chance in percent, at a random value. */
+/* Holds each line, and nothing else, with this chance in percent, at a random value. The same for the first one or two pins of each
+ * gate. */
 void hold_lines(unsigned percent);
+void hold_pins(unsigned percent, unsigned pins);
 
-/* Makes `hold` a hold of one line. */
-void set_hold(struct job *j, unsigned line, unsigned value);
+/* Writes a hold. */
+void set_hold(uint8_t hold[3], unsigned line, unsigned value);
 
 /* A drawing of the largest diagram with so many contacts, redrawn with so many nodes if it has fewer, and of one drawn at random, with
  * a node for each of its own. */
@@ -75,8 +77,11 @@ void use_one_rule(void);
 void widen_last_rule(void);
 void narrow_last_rule(void);
 
-/* Makes `hold` the one that shows latest, and returns the input at which it does. */
+/* Makes `hold` that of a line which shows latest, and returns the input at which it does. */
 uint32_t hold_latest_line(void);
+
+/* Makes `hold` that of a hidden pin, which the board must have. */
+void hold_hidden_pin(void);
 
 /* Makes `noted` this file with notes before its first field, so many with so many bytes in each value. */
 void note_file(const uint8_t *file, size_t length, unsigned notes, unsigned size);

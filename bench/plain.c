@@ -364,16 +364,33 @@ static bool netlist_lines(const struct netlist *n)
     return true;
 }
 
-static bool holds_good(const uint8_t *holds, size_t length, unsigned lines)
+/* The place of the first hold that is not of a line. */
+static size_t pins_from(const uint8_t *holds, size_t length)
 {
-    unsigned least = 2;
+    size_t h = 0;
+    while (h < length && holds[h + 2] < 2)
+        h += 3;
+    return h;
+}
+
+/* Question 14. A pin has twice the number of its gate's line plus 1 if it is the first, 2 if it is the second. */
+static bool holds_good(const uint8_t *holds, size_t length, unsigned first, unsigned lines)
+{
+    unsigned least = 2, least_pin = 2 * first + 1;
     if (length % 3 != 0)
         return false;
-    for (size_t h = 0; h < length; h += 3) {
+    size_t h = 0, pins = pins_from(holds, length);
+    for (; h < pins; h += 3) {
         unsigned line = two_bytes(holds + h);
-        if (line < least || line >= lines || holds[h + 2] > 1)
+        if (line < least || line >= lines)
             return false;
         least = line + 1;
+    }
+    for (; h < length; h += 3) {
+        unsigned line = two_bytes(holds + h), pin = 2 * line + holds[h + 2] / 2;
+        if (holds[h + 2] < 2 || holds[h + 2] > 5 || pin < least_pin || line >= lines)
+            return false;
+        least_pin = pin + 1;
     }
     return true;
 }
@@ -443,11 +460,12 @@ pilgodur_reading plain_read_off(const uint8_t *table, size_t table_len, uint32_t
     return (pilgodur_reading){0, word};
 }
 
-/* Works out every line of a netlist. */
+/* Works out every line of a netlist. Holds of lines stand before `pins`, the others from there on. A gate is the majority of what it
+ * reads and of its kind. */
 static void run_lines(const struct netlist *n, const uint8_t *rails, const uint8_t *holds, size_t holds_len, uint8_t *lines)
 {
     const uint8_t *gate = n->gate;
-    size_t h = 0;
+    size_t pins = pins_from(holds, holds_len), h = 0, p = pins;
     for (unsigned line = 0; line < n->lines; line++) {
         if (line < 2) {
             lines[line] = (uint8_t)line;
@@ -456,10 +474,12 @@ static void run_lines(const struct netlist *n, const uint8_t *rails, const uint8
         } else {
             uint8_t a = lines[two_bytes(gate + 1)];
             uint8_t b = lines[two_bytes(gate + 3)];
-            lines[line] = gate[0] == 0 ? a & b : a | b;
+            for (; p < holds_len && two_bytes(holds + p) == line; p += 3)
+                *(holds[p + 2] < 4 ? &a : &b) = holds[p + 2] % 2;
+            lines[line] = (a & b) | ((a | b) & gate[0]);
             gate += 5;
         }
-        if (h < holds_len && two_bytes(holds + h) == line) {
+        if (h < pins && two_bytes(holds + h) == line) {
             lines[line] = holds[h + 2];
             h += 3;
         }
@@ -477,7 +497,7 @@ uint32_t plain_run(const uint8_t *netlist, size_t netlist_len, const uint8_t *ra
         return 12;
     if (rails_len != n.first - 2 || !all_below(rails, n.first - 2, 2))
         return 13;
-    if (!holds_good(holds, holds_len, n.lines))
+    if (!holds_good(holds, holds_len, n.first, n.lines))
         return 14;
     if (lines_len < n.lines || pairs_len < 2 * pair_count(&n))
         return 9;
@@ -501,7 +521,7 @@ static bool is_read(const struct table *t, const struct matrix *whole, unsigned 
     return false;
 }
 
-/* Works out every line at a code input with one line held. */
+/* Works out every line at a code input with one line held; line 0 held at 0 is as it is. */
 static void work_out(unsigned contacts, uint32_t input, unsigned held, uint8_t held_at)
 {
     unsigned first = 2 + 2 * contacts;
@@ -522,6 +542,7 @@ static void work_out(unsigned contacts, uint32_t input, unsigned held, uint8_t h
     }
 }
 
+/* Where no input shows what is held it is a pin, which is hidden, and the lines are left as they are at input 0. */
 static pilgodur_probed search(const struct table *t, const struct matrix *whole, unsigned held, uint8_t held_at)
 {
     for (uint32_t input = 0; input < 1u << t->contacts; input++) {
@@ -532,7 +553,15 @@ static pilgodur_probed search(const struct table *t, const struct matrix *whole,
                 return (pilgodur_probed){0, input, j, value[pair[0]]};
         }
     }
-    return (pilgodur_probed){UINT32_MAX, 0, 0, 0}; /* not reached: a line that is read is seen at some input */
+    work_out(t->contacts, 0, held, held_at);
+    return (pilgodur_probed){0, 0, 0, PILGODUR_WAY_HIDDEN};
+}
+
+/* A pin that is held reads a constant's line in place of its source. */
+static pilgodur_probed search_pin(const struct table *t, const struct matrix *whole, struct gate *gate, uint8_t pin_value)
+{
+    *(pin_value < 4 ? &gate->left : &gate->right) = pin_value % 2;
+    return search(t, whole, 0, 0);
 }
 
 pilgodur_probed plain_probe(const uint8_t *table, size_t table_len, const uint8_t *hold, size_t hold_len,
@@ -544,15 +573,16 @@ pilgodur_probed plain_probe(const uint8_t *table, size_t table_len, const uint8_
     if (refusal != 0)
         return (pilgodur_probed){refusal, 0, 0, 0};
     make_gates(&t, &whole);
-    unsigned count = 2 + 2 * t.contacts + gate_count;
-    if (hold_len != 3 || !holds_good(hold, hold_len, count))
+    unsigned first = 2 + 2 * t.contacts, count = first + gate_count;
+    if (hold_len != 3 || !holds_good(hold, hold_len, first, count))
         return (pilgodur_probed){14, 0, 0, 0};
-    if (!is_read(&t, &whole, two_bytes(hold)))
+    if (hold[2] < 2 && !is_read(&t, &whole, two_bytes(hold)))
         return (pilgodur_probed){15, 0, 0, 0};
     if (buffer_len < file_length(&t) + count)
         return (pilgodur_probed){9, 0, 0, 0};
-    pilgodur_probed answer = search(&t, &whole, two_bytes(hold), hold[2]);
     write_file(&t, &whole, buffer);
+    pilgodur_probed answer = hold[2] < 2 ? search(&t, &whole, two_bytes(hold), hold[2])
+                                         : search_pin(&t, &whole, &gates[two_bytes(hold) - first], hold[2]);
     memcpy(buffer + file_length(&t), value, count);
     return answer;
 }

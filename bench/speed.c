@@ -87,10 +87,15 @@ static uint64_t do_run_noted(enum side side, const struct job *j)
     return run(side, j, j->noted, j->noted_length);
 }
 
+static uint64_t probe(enum side side, const struct job *j, const uint8_t *hold)
+{
+    pilgodur_probed r = services[side].probe(j->table, j->table_length, hold, 3, written[side], BUFFER);
+    return r.refusal + 100 * r.way + 1000 * r.output + 10000 * (uint64_t)r.input;
+}
+
 static uint64_t do_probe(enum side side, const struct job *j)
 {
-    pilgodur_probed r = services[side].probe(j->table, j->table_length, j->hold, 3, written[side], BUFFER);
-    return r.refusal + 100 * r.way + 1000 * r.output + 10000 * (uint64_t)r.input;
+    return probe(side, j, j->hold);
 }
 
 enum { SPREAD = 32 };
@@ -98,13 +103,12 @@ enum { SPREAD = 32 };
 /* Lines spread evenly over the board, each at both values. */
 static uint64_t do_probe_lines(enum side side, const struct job *j)
 {
-    static struct job each;
+    uint8_t hold[3];
     uint64_t sum = 0;
-    each = *j;
     for (unsigned k = 0; k < SPREAD; k++)
         for (unsigned value = 0; value < 2; value++) {
-            set_hold(&each, 2 + k * (j->lines - 2) / SPREAD, value);
-            sum = 31 * sum + do_probe(side, &each);
+            set_hold(hold, 2 + k * (j->lines - 2) / SPREAD, value);
+            sum = 31 * sum + probe(side, j, hold);
         }
     return sum;
 }
@@ -163,18 +167,35 @@ static void add_tables(unsigned contacts)
     add_row(label("read-off, %u contacts, 8 outputs", contacts), do_read_off, 1);
 }
 
-static void add_board_run(unsigned percent, const char *held)
+static void add_board_run(const char *held)
 {
-    hold_lines(percent);
     add_row(label("run, board of %u gates, %s held", job.gates, held), do_run, 1);
 }
 
-/* Four netlists in turn: a processor may remember how the branches went in the gates of one, and not of all. */
-static void add_random_netlists(const char *name, work *work, unsigned percent)
+static void add_board_runs(void)
+{
+    use_largest_board(12);
+    hold_lines(0);
+    add_board_run("no line");
+    hold_lines(50);
+    add_board_run("half of the lines");
+    hold_lines(100);
+    add_board_run("all lines");
+    hold_pins(1, 2);
+    add_board_run("one pin in 100");
+    hold_pins(100, 1);
+    add_board_run("every first pin");
+}
+
+/* Four netlists in turn: a processor may remember how the branches went in the gates of one, and not of all. So many percent of the
+ * lines are held, or of the pins if some are. */
+static void add_random_netlists(const char *name, work *work, unsigned lines, unsigned pins)
 {
     for (unsigned k = 0; k < 4; k++) {
         use_random_netlist(MOST_GATES);
-        hold_lines(percent);
+        hold_lines(lines);
+        if (pins > 0)
+            hold_pins(pins, 2);
         if (k == 0)
             add_row(name, work, 1);
         else
@@ -188,13 +209,19 @@ static void add_runs(void)
     add_row("run, no gates, no line held", do_run, 1);
     use_random_netlist(660);
     add_row("run, 660 gates, no line held", do_run, 1);
-    use_largest_board(12);
-    add_board_run(0, "no line");
-    add_board_run(50, "half of the lines");
-    add_board_run(100, "all lines");
-    add_random_netlists("run, 10,560 gates, 4 netlists, no line held", do_run, 0);
-    add_random_netlists("run, 10,560 gates, 4 netlists, half of the lines held", do_run, 50);
-    add_random_netlists("run, 10,560 gates, 4 netlists, all lines held", do_run, 100);
+    add_board_runs();
+    add_random_netlists("run, 10,560 gates, 4 netlists, no line held", do_run, 0, 0);
+    add_random_netlists("run, 10,560 gates, 4 netlists, half of the lines held", do_run, 50, 0);
+    add_random_netlists("run, 10,560 gates, 4 netlists, all lines held", do_run, 100, 0);
+    struct dice before = dice;
+    add_random_netlists("run, 10,560 gates, 4 netlists, half of the pins held", do_run, 0, 50);
+    dice = before; /* the other files are what they are without this row */
+}
+
+static void add_hidden(void)
+{
+    hold_hidden_pin();
+    add_row(label("probe, %u contacts, %u gates, a hidden pin", job.contacts, job.gates), do_probe, 1);
 }
 
 /* The line that shows latest of all. */
@@ -213,6 +240,7 @@ static void add_probes(void)
 {
     use_largest_board(12);
     add_latest();
+    add_hidden();
     add_mean();
     for (unsigned contacts = 12; contacts >= 2; contacts -= 2) {
         use_shy_board(contacts);
@@ -236,7 +264,7 @@ static void add_sheets(void)
     add_row("sheet, 660 gates", do_sheet, 1);
     use_largest_board(12);
     add_row(label("sheet, board of %u gates", job.gates), do_sheet, 1);
-    add_random_netlists("sheet, 10,560 gates, 4 netlists", do_sheet, 0);
+    add_random_netlists("sheet, 10,560 gates, 4 netlists", do_sheet, 0, 0);
 }
 
 static void add_drawings(void)
@@ -311,8 +339,8 @@ int main(void)
 {
     printf("Processor time for one call in microseconds, in the fastest of %d rounds, and the library's time divided by\n"
            "the others': below 1 the library is faster. \"seen at\": the held line that shows latest of all, at this input.\n"
-           "\"mean\": over %d lines spread evenly, each at both values. \"alike until late\": the functions differ only in\n"
-           "values that come last.\n\n", ROUNDS, SPREAD);
+           "\"a hidden pin\": no input shows it. \"mean\": over %d lines spread evenly, each at both values. \"alike until\n"
+           "late\": the functions differ only in values that come last.\n\n", ROUNDS, SPREAD);
     fflush(stdout);
     add_tables(12);
     add_tables(6);

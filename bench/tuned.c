@@ -432,38 +432,50 @@ static bool rails_good(const uint8_t *rails, size_t count)
     return any <= 1;
 }
 
-static bool holds_good(const uint8_t *holds, size_t length, unsigned lines)
+/* What a line shows, as a truth table of eight bits: of its gate's first source, the second, which weighs 2, and the kind, which weighs 4.
+ * Where nothing is held it is their majority. A rail has its byte for all three. */
+enum { MAJORITY = 0xe8 };
+
+/* Copies the bits where the pin has its held value to those where it has the other. */
+static void hold_pin(uint8_t *truth, unsigned value)
 {
+    static const uint8_t kept[6] = {[2] = 0x55, 0xaa, 0x33, 0xcc}, copied[6] = {[2] = 3, 3, 5, 5}, down[6] = {[3] = 1, [5] = 2};
+    *truth = (uint8_t)((*truth & kept[value]) * copied[value] >> down[value]);
+}
+
+/* Question 14; holds lines and pins as long as they are good. The pins are counted from line 0 on, two for each. */
+static bool take_holds(const uint8_t *holds, size_t length, unsigned first, unsigned lines, uint8_t *truth)
+{
+    const uint8_t *end = holds + length;
     unsigned least = 2;
     if (length % 3 != 0)
         return false;
-    for (const uint8_t *end = holds + length; holds < end; holds += 3) {
+    for (; holds < end && holds[2] < 2; holds += 3) {
         unsigned line = two_bytes(holds);
-        if (line < least || holds[2] > 1)
+        if (line < least || line >= lines)
             return false;
+        truth[line] = (uint8_t)-holds[2];
         least = line + 1;
     }
-    return least <= lines;
-}
-
-/* What a line shows, by its mark plus the sum of its gate's sources and kind: free lines (mark 0) show the majority of the three. */
-enum { HELD_AT_0 = 4, HELD_AT_1 = 8 };
-static const uint8_t shown[12] = {0, 0, 1, 1, [HELD_AT_0] = 0, 0, 0, 0, [HELD_AT_1] = 1, 1, 1, 1};
-
-static void mark_holds(const uint8_t *holds, size_t length, uint8_t *mark)
-{
-    for (const uint8_t *end = holds + length; holds < end; holds += 3)
-        mark[two_bytes(holds)] = (uint8_t)(HELD_AT_0 + holds[2] * (HELD_AT_1 - HELD_AT_0));
+    least = 2 * first;
+    for (; holds < end; holds += 3) {
+        unsigned line = two_bytes(holds), pin = 2 * line + (holds[2] > 3);
+        if (pin < least || line >= lines || holds[2] - 2u > 3)
+            return false;
+        hold_pin(&truth[line], holds[2]);
+        least = pin + 1;
+    }
+    return true;
 }
 
 /* Works out the gates as long as they are good. */
-static bool work_out(const uint8_t *gate, unsigned first, unsigned count, const uint8_t *mark, uint8_t *value)
+static bool work_out(const uint8_t *gate, unsigned first, unsigned count, const uint8_t *truth, uint8_t *value)
 {
     for (unsigned line = first; line < count; line++, gate += 5) {
         unsigned left = two_bytes(gate + 1), right = two_bytes(gate + 3);
         if (gate[0] > 1 || left >= line || right >= line)
             return false;
-        value[line] = shown[mark[line] + value[left] + value[right] + gate[0]];
+        value[line] = truth[line] >> (value[left] + 2 * value[right] + 4 * gate[0]) & 1;
     }
     return true;
 }
@@ -473,21 +485,19 @@ uint32_t tuned_run(const uint8_t *netlist, size_t netlist_len, const uint8_t *ra
                    const uint8_t *holds, size_t holds_len, uint8_t *lines, size_t lines_len,
                    uint8_t *pairs, size_t pairs_len)
 {
-    uint8_t value[PILGODUR_LINES_MAX], mark[PILGODUR_LINES_MAX];
+    uint8_t value[PILGODUR_LINES_MAX], truth[PILGODUR_LINES_MAX];
     struct netlist n;
     if (!netlist_fields(netlist, netlist_len, &n))
         return 11;
     unsigned first = 2 + 2 * n.contacts, count = first + n.gates;
     bool driven = rails_len == first - 2 && rails_good(rails, first - 2);
-    bool ordered = holds_good(holds, holds_len, count);
-    memset(mark, 0, count);
-    if (ordered)
-        mark_holds(holds, holds_len, mark);
+    memset(truth, MAJORITY, count);
+    bool ordered = take_holds(holds, holds_len, first, count, truth);
     value[0] = 0;
     value[1] = 1;
     for (unsigned line = 2; line < first; line++)
-        value[line] = shown[mark[line] + (driven ? 2 * rails[line - 2] : 0)];
-    if (!work_out(n.gate, first, count, mark, value) || !pairs_good(&n, count))
+        value[line] = truth[line] >> (driven ? 7 * rails[line - 2] : 0) & 1;
+    if (!work_out(n.gate, first, count, truth, value) || !pairs_good(&n, count))
         return 12;
     if (!driven || !ordered)
         return driven ? 14 : 13;
@@ -514,6 +524,7 @@ struct gate {
 
 struct search {
     unsigned first, lines;
+    unsigned held_rail, level; /* a constant stands for no rail */
     struct gate gate[MOST_GATES];
     words value[PILGODUR_LINES_MAX];
 };
@@ -529,6 +540,31 @@ static void take_gates(struct search *s, const uint8_t *gate)
         s->gate[g] = (struct gate){(uint16_t)two_bytes(gate + 1), (uint16_t)two_bytes(gate + 3), gate[0]};
 }
 
+/* Question 14 for just one hold. */
+static bool is_hold(const struct search *s, const uint8_t *hold, size_t length)
+{
+    if (length != 3 || hold[2] > 5)
+        return false;
+    unsigned line = two_bytes(hold), least = hold[2] < 2 ? 2 : s->first;
+    return least <= line && line < s->lines;
+}
+
+/* A gate reads a constant at a held pin, and at both if its line is held. A held rail is set with the others. */
+static void take_hold(struct search *s, const uint8_t *hold)
+{
+    unsigned line = two_bytes(hold);
+    uint16_t level = hold[2] % 2;
+    s->held_rail = line < s->first ? line : level;
+    s->level = level;
+    if (line < s->first)
+        return;
+    struct gate *gate = &s->gate[line - s->first];
+    if (hold[2] < 4)
+        gate->left = level;
+    if (hold[2] < 2 || hold[2] > 3)
+        gate->right = level;
+}
+
 static void put_rails(struct search *s, unsigned contacts, uint32_t input)
 {
     s->value[0] = (words){0};
@@ -539,25 +575,17 @@ static void put_rails(struct search *s, unsigned contacts, uint32_t input)
             (*on)[k] = i < 6 ? low_contact[i] : -(uint64_t)((input + 64 * k) >> i & 1);
         on[1] = ~on[0];
     }
+    s->value[s->held_rail] = s->value[s->level];
 }
 
 /* A gate is the majority of its sources and of the constant that its kind numbers. */
-static void put_gates(struct search *s, unsigned from, unsigned to)
+static void put_gates(struct search *s)
 {
-    for (unsigned line = from; line < to; line++) {
+    for (unsigned line = s->first; line < s->lines; line++) {
         const struct gate *g = &s->gate[line - s->first];
         words a = s->value[g->left], b = s->value[g->right];
         s->value[line] = (a & b) | ((a | b) & s->value[g->kind]);
     }
-}
-
-static void put_lines(struct search *s, unsigned contacts, uint32_t input, unsigned held, unsigned held_at)
-{
-    put_rails(s, contacts, input);
-    if (held >= s->first)
-        put_gates(s, s->first, held);
-    s->value[held] = s->value[held_at];
-    put_gates(s, held >= s->first ? held + 1 : s->first, s->lines);
 }
 
 /* Bit i of word k tells whether the pair of an output is no code at input 64k + i. */
@@ -566,30 +594,50 @@ static words no_code(const struct search *s, const uint8_t *pair)
     return ~(s->value[two_bytes(pair)] ^ s->value[two_bytes(pair + 2)]);
 }
 
-/* The first input at which some pair is no code. There is one for every line that is read, so the search ends. */
-static uint32_t find_input(struct search *s, const struct table *t, const uint8_t *pairs, const uint8_t *hold)
+/* Works out 128 inputs from one on. Bit i of word k tells whether some pair is no code at the input 64k + i after it. */
+static words put_lines(struct search *s, const struct table *t, const uint8_t *pairs, uint32_t input)
 {
-    for (uint32_t input = 0;; input += INPUTS) {
-        words shown = {0};
-        put_lines(s, t->contacts, input, two_bytes(hold), hold[2]);
-        for (unsigned j = 0; j < t->outputs; j++)
-            shown |= no_code(s, pairs + 4 * j);
+    words shown = {0};
+    put_rails(s, t->contacts, input);
+    put_gates(s);
+    for (unsigned j = 0; j < t->outputs; j++)
+        shown |= no_code(s, pairs + 4 * j);
+    return shown;
+}
+
+/* The first input at which some pair is no code; 2^n if there is none, which can be for a pin alone. */
+static uint32_t find_input(struct search *s, const struct table *t, const uint8_t *pairs)
+{
+    for (uint32_t input = 0; input >> t->contacts == 0; input += INPUTS) {
+        words shown = put_lines(s, t, pairs, input);
         for (unsigned k = 0; k < WORDS; k++)
             if (shown[k] != 0)
                 return input + 64 * k + (uint32_t)__builtin_ctzll(shown[k]);
     }
+    return 1u << t->contacts;
 }
 
-static pilgodur_probed search(struct search *s, const struct table *t, const uint8_t *pairs, const uint8_t *hold,
-                              uint8_t *lines)
+/* Writes the lines at an input of those that are worked out. */
+static void write_lines(const struct search *s, uint32_t input, uint8_t *lines)
 {
-    uint32_t input = find_input(s, t, pairs, hold);
-    unsigned k = input % INPUTS / 64, bit = input % 64, j = 0;
-    while ((no_code(s, pairs + 4 * j)[k] >> bit & 1) == 0)
-        j++;
+    unsigned k = input % INPUTS / 64, bit = input % 64;
     for (unsigned line = 0; line < s->lines; line++)
         lines[line] = s->value[line][k] >> bit & 1;
-    return (pilgodur_probed){0, input, j, hold[2]};
+}
+
+static pilgodur_probed search(struct search *s, const struct table *t, const uint8_t *pairs, uint8_t *lines)
+{
+    uint32_t input = find_input(s, t, pairs);
+    unsigned j = 0;
+    if (input >> t->contacts != 0) {
+        put_lines(s, t, pairs, 0);
+        write_lines(s, 0, lines);
+        return (pilgodur_probed){0, 0, 0, PILGODUR_WAY_HIDDEN};
+    }
+    while ((no_code(s, pairs + 4 * j)[input % INPUTS / 64] >> input % 64 & 1) == 0)
+        j++;
+    write_lines(s, input, lines);
+    return (pilgodur_probed){0, input, j, s->level};
 }
 
 /* Question 15 without a look at the netlist: every gate is read, and a rail exactly if a node of its level has two different edges. */
@@ -613,16 +661,17 @@ pilgodur_probed tuned_probe(const uint8_t *table, size_t table_len, const uint8_
     if (refusal != 0)
         return (pilgodur_probed){refusal, 0, 0, 0};
     size_t length = put_file(&t, made, &s.lines, false);
-    if (hold_len != 3 || !holds_good(hold, hold_len, s.lines))
+    s.first = 2 + 2 * t.contacts;
+    if (!is_hold(&s, hold, hold_len))
         return (pilgodur_probed){14, 0, 0, 0};
     if (!is_read(&t, two_bytes(hold)))
         return (pilgodur_probed){15, 0, 0, 0};
     if (buffer_len < length + s.lines)
         return (pilgodur_probed){9, 0, 0, 0};
-    s.first = 2 + 2 * t.contacts;
     take_gates(&s, made + 7);
+    take_hold(&s, hold);
     memcpy(buffer, made, length);
-    return search(&s, &t, buffer + length - 4 * t.outputs, hold, buffer + length);
+    return search(&s, &t, buffer + length - 4 * t.outputs, buffer + length);
 }
 
 /* ---- The gate sheet: a row is three words, put together in registers; the columns of a number come from tables, without a loop or

@@ -53,6 +53,7 @@ const struct noting some_notes = {.percent = 35, .any = true};
 struct noting noting = {.percent = 35, .any = true};
 unsigned long hits[SERVICES][REFUSALS], noted_hits[SERVICES][REFUSALS];
 unsigned long noted_kinds[NOTE_KINDS], noted_places[NOTED_PLACES], damaged_notes;
+unsigned long ways[2][WAYS];
 static struct lent lent[SIDES][STRINGS];
 static uint8_t noise[NOISE];
 static struct file noted; /* the file of a call with notes put in */
@@ -246,6 +247,8 @@ uint32_t compare(struct call *call)
     if (what == NULL) {
         hits[call->service][refusal]++;
         noted_hits[call->service][refusal] += call->sides == SIDES;
+        if (call->service == PROBE && refusal == 0)
+            ways[call->content[1][2] > 1][answers[REFERENCE].number[3]]++;
     }
     return refusal;
 }
@@ -291,6 +294,20 @@ void lend_buffer(struct call *call, unsigned k, size_t need)
     else if (kind < 43)
         length = 0;
     lend_noise(call, k, need, length);
+}
+
+void build_netlist(const struct file *table, bool lamp, struct file *netlist)
+{
+    netlist->length = (lamp ? ref_build_with_lamp : ref_build)(table->bytes, table->length, netlist->bytes, FILE_ROOM).length;
+}
+
+void expect_probe(const struct file *table, const struct file *hold, size_t need, size_t length, uint32_t number)
+{
+    struct call probe = {.service = PROBE};
+    give(&probe, 0, table);
+    give(&probe, 1, hold);
+    lend_noise(&probe, 2, need, length);
+    expect(&probe, number);
 }
 
 void damage_some_notes(struct file *file)

@@ -7,7 +7,7 @@
 #include "damage.h"
 #include "demands.h"
 
-enum { STRINGS = 5, REFUSALS = 21, NOTED_PLACES = 67 };
+enum { STRINGS = 5, REFUSALS = 21, NOTED_PLACES = 67, WAYS = PILGODUR_WAY_HIDDEN + 1 };
 enum service { CHECK, BUILD, BUILD_WITH_LAMP, READ_OFF, RUN, PROBE, SHEET, FROM_DRAWING, FROM_RULES, SERVICES };
 
 /* The strings stand in the order of the parameters. */
@@ -38,6 +38,7 @@ extern const struct noting some_notes;
 extern struct noting noting;
 extern unsigned long hits[SERVICES][REFUSALS], noted_hits[SERVICES][REFUSALS];
 extern unsigned long noted_kinds[NOTE_KINDS], noted_places[NOTED_PLACES], damaged_notes;
+extern unsigned long ways[2][WAYS]; /* of the answers to probes of lines, and of pins */
 
 /* Before the first call, when the dice are set, and after the last one. */
 void open_calls(void);
@@ -59,6 +60,12 @@ void lend_noise(struct call *call, unsigned k, size_t need, size_t length);
 
 /* Lends one that is as long as needed, one byte short, longer, much shorter or of no length. */
 void lend_buffer(struct call *call, unsigned k, size_t need);
+
+/* The reference's netlist of a table; of no length if it is refused. */
+void build_netlist(const struct file *table, bool lamp, struct file *netlist);
+
+/* A probe whose number is known, with a buffer of this length. */
+void expect_probe(const struct file *table, const struct file *hold, size_t need, size_t length, uint32_t number);
 
 /* Puts notes into some files, and damages one of them in most. */
 void damage_some_notes(struct file *file);

@@ -1,6 +1,7 @@
 /* Compares the library with the reference, call by call, on boards with spare contacts in every place, on lamps of every count of
- * outputs and of every damage, on drawings and rule sheets of every kind, on notes of every kind in every place and on random cases, and
- * asks the demands of boards that the library builds and of tables that it makes from drawings and rule sheets.
+ * outputs and of every damage, on holds of lines and pins of every kind, on drawings and rule sheets of every kind, on notes of every
+ * kind in every place and on random cases, and asks the demands of boards that the library builds and of tables that it makes from
+ * drawings and rule sheets.
  *
  *     compare [SEED [CASES]]
  *
@@ -19,7 +20,7 @@
 #include "calls.h"
 #include "edits.h"
 #include "malformed.h"
-#include "reference.h"
+#include "pin_cases.h"
 #include "rule_cases.h"
 
 _Static_assert(PILGODUR_TABLE_MAX == TABLE_MAX, "the length of the longest table");
@@ -121,11 +122,6 @@ static uint32_t draw_input(const struct file *table)
     return kind < 94 ? (uint32_t)-1 - roll(&dice, 3) : roll(&dice, 1u << 31);
 }
 
-static void build_netlist(const struct file *table, bool lamp, struct file *netlist)
-{
-    netlist->length = (lamp ? ref_build_with_lamp : ref_build)(table->bytes, table->length, netlist->bytes, FILE_ROOM).length;
-}
-
 /* A netlist that gets a yes to questions 11 and 12: built from a table, or any; half of them have a lamp. */
 static void draw_netlist(struct file *netlist)
 {
@@ -142,13 +138,15 @@ static void draw_netlist(struct file *netlist)
 
 /* ---- Cases of each service. ---- */
 
-static void draw_hold(unsigned lines, struct file *hold)
+static void draw_hold(const struct sites *sites, struct file *hold)
 {
-    one_hold(&dice, lines, hold);
-    if (chance(&dice, 15))
-        damage_holds(&dice, lines, hold);
+    one_hold(&dice, sites, hold);
+    if (chance(&dice, 10))
+        damage_one_hold(&dice, (enum hold_damage)roll(&dice, LINE_TWICE), sites, hold);
     else if (chance(&dice, 5))
-        not_one_hold(&dice, lines, hold);
+        damage_holds_somehow(&dice, sites, hold);
+    else if (chance(&dice, 5))
+        not_one_hold(&dice, sites, hold);
 }
 
 /* Notes a netlist with a lamp that was built. The lines of its outputs stand before the seven bytes of tag 6. */
@@ -173,9 +171,11 @@ static void table_case(enum service service)
     if (service == BUILD || service == BUILD_WITH_LAMP || service == PROBE) {
         build_netlist(&table, service == BUILD_WITH_LAMP, &netlist);
         size_t need = netlist.length != 0 ? netlist.length : roll(&dice, 300);
-        unsigned lines = netlist.length != 0 ? lines_of(&netlist) : 2 + roll(&dice, 50);
-        lend_buffer(&call, service == PROBE ? 2 : 1, service == PROBE ? need + lines : need);
-        draw_hold(lines, &hold);
+        struct sites sites = {4, 4 + roll(&dice, 50)};
+        if (netlist.length != 0)
+            sites = sites_of(&netlist);
+        lend_buffer(&call, service == PROBE ? 2 : 1, service == PROBE ? need + sites.lines : need);
+        draw_hold(&sites, &hold);
         if (service == PROBE)
             give(&call, 1, &hold);
     }
@@ -203,22 +203,23 @@ static void run_case(void)
     static struct file netlist, rails, holds;
     struct call call = {.service = RUN};
     draw_netlist(&netlist);
-    unsigned lines = lines_of(&netlist);
+    struct sites sites = sites_of(&netlist);
     random_rails(&dice, contacts_of(&netlist), &rails);
-    random_holds(&dice, lines, roll(&dice, 3), &holds);
-    lend_buffer(&call, 3, lines);
+    random_holds(&dice, &sites, roll(&dice, 3), &holds);
+    lend_buffer(&call, 3, sites.lines);
     lend_buffer(&call, 4, 2 * (size_t)pairs_of(&netlist));
     damage_some(&netlist);
     if (chance(&dice, 10))
         damage_rails(&dice, &rails);
     if (chance(&dice, 12))
-        damage_holds(&dice, lines, &holds);
+        damage_holds_somehow(&dice, &sites, &holds);
     call.need[3] = lines_of(&netlist);
     call.need[4] = 2 * (size_t)pairs_of(&netlist);
     give(&call, 0, &netlist);
     give(&call, 1, &rails);
     give(&call, 2, &holds);
-    compare(&call);
+    if (compare(&call) == 0)
+        note_held(&holds);
 }
 
 /* The bytes of the sheet of a netlist that gets a yes to question 11; of others some number. */
@@ -429,11 +430,12 @@ static void drawing_case(void)
 static void services_on_netlist(const struct file *netlist)
 {
     static struct file rails, holds;
-    unsigned lines = lines_of(netlist);
+    struct sites sites = sites_of(netlist);
+    unsigned lines = sites.lines;
     size_t pairs = 2 * (size_t)pairs_of(netlist), outputs = 2 * (size_t)outputs_of(netlist), text = sheet_length(netlist);
     const size_t room[][2] = {{lines, pairs}, {lines - 1, pairs}, {lines, pairs - 1}, {lines, outputs}};
     random_rails(&dice, contacts_of(netlist), &rails);
-    random_holds(&dice, lines, roll(&dice, 3), &holds);
+    random_holds(&dice, &sites, roll(&dice, 3), &holds);
     for (unsigned k = 0; k < 4; k++) {
         struct call run = {.service = RUN};
         give(&run, 0, netlist);
@@ -489,13 +491,9 @@ static void probe_all_lines(const struct diagram *diagram, const struct file *ta
         bool unread = contact < diagram->contacts && is_spare(diagram, contact);
         for (unsigned k = 0; k < 4; k++) {
             unsigned value = k / 2, missing = k % 2;
-            struct call call = {.service = PROBE};
             hold.length = 0;
             add_hold(&hold, line, value);
-            give(&call, 0, table);
-            give(&call, 1, &hold);
-            lend_noise(&call, 2, need, need - missing);
-            expect(&call, unread ? 15 : missing ? 9 : 0);
+            expect_probe(table, &hold, need, need - missing, unread ? 15 : missing ? 9 : 0);
         }
     }
 }
@@ -507,6 +505,7 @@ static void compare_board(const struct diagram *diagram)
     build_netlist(&table, false, &netlist);
     services_but_probe(&table);
     probe_all_lines(diagram, &table, &netlist);
+    probe_pins(&table, &netlist);
 }
 
 /* ---- Lamps. ---- */
@@ -578,7 +577,8 @@ static void compare_lamps(unsigned outputs)
 static void expect_refused_table(const struct file *table, uint32_t number)
 {
     static struct file hold;
-    struct call check = {.service = CHECK}, read_off = {.service = READ_OFF}, probe = {.service = PROBE};
+    static const struct sites few = {4, 6};
+    struct call check = {.service = CHECK}, read_off = {.service = READ_OFF};
     give(&check, 0, table);
     expect(&check, number);
     give(&read_off, 0, table);
@@ -589,11 +589,8 @@ static void expect_refused_table(const struct file *table, uint32_t number)
         lend_noise(&build, 1, 0, PILGODUR_FILE_MAX);
         expect(&build, number);
     }
-    one_hold(&dice, 6, &hold);
-    give(&probe, 0, table);
-    give(&probe, 1, &hold);
-    lend_noise(&probe, 2, 0, PILGODUR_FILE_MAX);
-    expect(&probe, number);
+    one_hold(&dice, &few, &hold);
+    expect_probe(table, &hold, 0, PILGODUR_FILE_MAX, number);
 }
 
 /* A table, its netlist without the lamp and with it, and a drawing: the files that can have notes. */
@@ -617,15 +614,12 @@ static void draw_files(unsigned contacts, struct files *files)
 static void expect_probed(const struct diagram *diagram, const struct file *table)
 {
     static struct file hold, netlist;
-    struct call probe = {.service = PROBE};
     unsigned contact = roll(&dice, diagram->contacts);
     build_netlist(table, false, &netlist);
+    size_t need = netlist.length + lines_of(&netlist);
     hold.length = 0;
     add_hold(&hold, 2 + 2 * contact + roll(&dice, 2), roll(&dice, 2));
-    give(&probe, 0, table);
-    give(&probe, 1, &hold);
-    lend_noise(&probe, 2, netlist.length + lines_of(&netlist), netlist.length + lines_of(&netlist));
-    expect(&probe, is_spare(diagram, contact) ? 15 : 0);
+    expect_probe(table, &hold, need, need, is_spare(diagram, contact) ? 15 : 0);
 }
 
 /* Every service on files that are good; `table` is that of the drawing. */
@@ -870,14 +864,6 @@ static bool print_notes(void)
     return all && damaged_notes != 0 && tags_passed != 0 && tags_refused != 0;
 }
 
-static bool print_checked_rules(void)
-{
-    unsigned long refused = demands.shared + demands.unruled + demands.rules_too_wide;
-    printf("rule sheets checked by themselves: %lu, %lu of them with a shared input, %lu with one that fits none, %lu with more than "
-           "eight functions in a level\n", demands.rule_sheets, demands.shared, demands.unruled, demands.rules_too_wide);
-    return demands.shared != 0 && demands.unruled != 0 && demands.rules_too_wide != 0 && refused != demands.rule_sheets;
-}
-
 static int summary(void)
 {
     printf("seed %" PRIu64 ", %lu cases\n", seed, cases);
@@ -893,24 +879,14 @@ static int summary(void)
     all = with_constant != 0 && all_constant != 0 && eleven_spare_of_12 != 0 && all;
     all = print_sheets() && all;
     all = print_lamps() && all;
+    all = print_holds() && all;
     all = print_drawings() && all;
     all = print_rules() && all;
     all = print_notes() && all;
-    printf("boards checked by themselves: %lu, with %lu sheets, %lu runs, %lu sets of lines held one way, %lu probes, %lu of them of "
-           "lines that nothing reads\n",
-           demands.boards, demands.sheets, demands.inputs, demands.hold_sets, demands.probes, demands.unread);
-    printf("their lamps: run with lines held in any way %lu times, a code in %lu of them; with lines held one way %lu times, no code "
-           "in %lu of them; %lu single lines seen at the lamp\n",
-           demands.lamp_runs, demands.lamp_codes, demands.lamp_one_way, demands.lamp_no_codes, demands.lamp_seen);
-    all = demands.lamp_codes != 0 && demands.lamp_codes != demands.lamp_runs && demands.lamp_no_codes != 0 &&
-          demands.lamp_no_codes != demands.lamp_one_way && demands.lamp_seen != 0 && all;
-    printf("drawings checked by themselves: %lu, %lu of them with more than eight functions in a level\n", demands.drawings,
-           demands.too_wide);
-    all = demands.too_wide != 0 && demands.too_wide != demands.drawings && all;
-    all = print_checked_rules() && all;
+    all = print_demands(&demands) && all;
     if (!all)
-        printf("not every number that a service can give was hit, or a kind of table, sheet, lamp, drawing, rule sheet or note was "
-               "missed\n");
+        printf("not every number that a service can give was hit, or a kind of table, sheet, lamp, hold, drawing, rule sheet or "
+               "note was missed\n");
     printf("%lu differences\n", differences + demands.failures);
     return all && differences + demands.failures == 0 ? 0 : 1;
 }
@@ -953,8 +929,10 @@ static void compare_all_kinds(void)
         compare_spare_contacts(contacts);
     for (unsigned outputs = 1; outputs <= 8; outputs++)
         compare_lamps(outputs);
+    compare_known_holds();
     compare_known_rules();
     for (unsigned contacts = 1; contacts <= 12; contacts++) {
+        compare_holds(contacts);
         compare_drawings(contacts);
         compare_rules(contacts);
         compare_notes(contacts);
@@ -981,7 +959,7 @@ int main(int argc, char **argv)
             compare_sizes();
             compare_most_gates();
         }
-        if (i % 400 == 0)
+        if (i % 500 == 0)
             compare_small_board();
         if (i % 50 == 0) {
             check_some_board();

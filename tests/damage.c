@@ -340,8 +340,7 @@ static void spoil_framing(struct dice *dice, struct file *file)
         spoil_contacts(dice, file);
 }
 
-/* A line that the netlist does not have, often the first of them. */
-static unsigned line_outside(struct dice *dice, unsigned lines)
+unsigned line_outside(struct dice *dice, unsigned lines)
 {
     return lines + (chance(dice, 60) ? 0 : roll(dice, 65536 - lines));
 }
@@ -441,79 +440,6 @@ void damage_rails(struct dice *dice, struct file *rails)
         add_byte(rails, 1);
         add_byte(rails, 0);
         break;
-    }
-}
-
-/* ---- Holds. ---- */
-
-void add_hold(struct file *holds, unsigned line, unsigned value)
-{
-    add_two(holds, line);
-    add_byte(holds, value);
-}
-
-void random_holds(struct dice *dice, unsigned lines, unsigned way, struct file *holds)
-{
-    static const unsigned densities[] = {0, 1, 5, 20, 50, 90, 100};
-    unsigned density = densities[roll(dice, sizeof densities / sizeof *densities)];
-    unsigned sure = chance(dice, 70) ? 2 + roll(dice, lines - 2) : 0;
-    holds->length = 0;
-    for (unsigned line = 2; line < lines; line++)
-        if ((line == sure && density != 0) || chance(dice, density))
-            add_hold(holds, line, way < 2 ? way : roll(dice, 2));
-}
-
-void one_hold(struct dice *dice, unsigned lines, struct file *holds)
-{
-    holds->length = 0;
-    add_hold(holds, 2 + roll(dice, lines - 2), roll(dice, 2));
-}
-
-/* Makes the line of one hold that of the one before it, or changes places with it. */
-static void spoil_rise(struct dice *dice, struct file *holds)
-{
-    if (holds->length < 6)
-        return;
-    uint8_t *at = holds->bytes + 3 * (1 + roll(dice, (uint32_t)holds->length / 3 - 1));
-    if (chance(dice, 50))
-        memcpy(at, at - 3, 2);
-    else
-        swap_bytes(at, at - 3, 3);
-}
-
-void damage_holds(struct dice *dice, unsigned lines, struct file *holds)
-{
-    switch (roll(dice, 6)) {
-    case 0:
-        insert(dice, holds, holds->length, 1 + roll(dice, 2));
-        break;
-    case 1:
-        insert(dice, holds, 0, 3);
-        set_two_bytes(holds->bytes, roll(dice, 2));
-        break;
-    case 2:
-        add_hold(holds, lines + (chance(dice, 60) ? 0 : roll(dice, 50000)), roll(dice, 2));
-        break;
-    case 3:
-        if (holds->length > 0)
-            holds->bytes[3 * roll(dice, (uint32_t)holds->length / 3) + 2] = (uint8_t)above_one(dice);
-        break;
-    case 4:
-        spoil_rise(dice, holds);
-        break;
-    default:
-        holds->length -= holds->length == 0 ? 0 : 1 + roll(dice, 2);
-        break;
-    }
-}
-
-void not_one_hold(struct dice *dice, unsigned lines, struct file *holds)
-{
-    holds->length = 0;
-    if (lines > 3 && chance(dice, 60)) {
-        unsigned line = 2 + roll(dice, lines - 3);
-        add_hold(holds, line, roll(dice, 2));
-        add_hold(holds, line + 1 + roll(dice, lines - line - 1), roll(dice, 2));
     }
 }
 

@@ -41,19 +41,12 @@ unsigned gates_of(const struct file *netlist);
 unsigned outputs_of(const struct file *netlist);
 unsigned pairs_of(const struct file *netlist);
 
+/* A line that a netlist of so many does not have, often the first of them. */
+unsigned line_outside(struct dice *dice, unsigned lines);
+
 void code_rails(unsigned contacts, uint32_t input, struct file *rails);
 void random_rails(struct dice *dice, unsigned contacts, struct file *rails);
 void damage_rails(struct dice *dice, struct file *rails);
-
-/* Holds on lines 2 to lines-1, from none to all; ways 0 and 1 hold all at that value, 2 mixes. */
-void random_holds(struct dice *dice, unsigned lines, unsigned way, struct file *holds);
-void one_hold(struct dice *dice, unsigned lines, struct file *holds);
-void damage_holds(struct dice *dice, unsigned lines, struct file *holds);
-
-/* No hold, or two good ones. */
-void not_one_hold(struct dice *dice, unsigned lines, struct file *holds);
-
-void add_hold(struct file *holds, unsigned line, unsigned value);
 
 /* Notes to be put into a file: one of any tag and length, one of length 0, and so on. The value of the last kind is the file's own bytes
  * from its start on. */

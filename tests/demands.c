@@ -7,6 +7,7 @@
 #include "../include/pilgodur.h"
 #include "damage.h"
 #include "edits.h"
+#include "holds.h"
 
 enum { SMALL_BOARD = 60, SMALL_WORK = 100000, SOME_INPUTS = 16, HOLD_SETS = 12, SEEN = 1 << 17, ROW = 22 };
 enum { PLAIN_GATES = 10560 }; /* of a board without the lamp, at most */
@@ -300,22 +301,30 @@ static bool check_all_permits(struct dice *dice, const struct board *board)
     return true;
 }
 
-/* With lines held all at `way`, each pair of the last run is right or shows `way` twice. */
+/* With lines and pins held all at `way`, each pair of the last run is right or shows `way` twice. */
 static bool check_one_way(const struct board *board, uint32_t input, unsigned way)
 {
     for (unsigned j = 0; j < board->diagram->outputs; j++)
         if (!right_code(board, j, input) && (pairs[2 * j] != way || pairs[2 * j + 1] != way))
-            return fail(board, "input %" PRIu32 ", %zu lines held at %u: output %u shows %u%u", input, holds.length / 3, way,
-                        j, pairs[2 * j], pairs[2 * j + 1]);
+            return fail(board, "input %" PRIu32 ", %zu holds at %u: output %u shows %u%u", input, holds.length / 3, way, j,
+                        pairs[2 * j], pairs[2 * j + 1]);
     return true;
+}
+
+/* A set of lines and pins of a netlist held all at `way`. Those of lines come first. */
+static void draw_hold_set(struct dice *dice, const struct board *board, const struct file *file, unsigned way)
+{
+    struct sites sites = sites_of(file);
+    random_holds(dice, &sites, way, &holds);
+    board->demands->hold_sets++;
+    board->demands->mixed_sets += holds.length > 0 && holds.bytes[2] < 2 && holds.bytes[holds.length - 1] > 1;
 }
 
 static bool check_hold_sets(struct dice *dice, const struct board *board)
 {
     uint32_t inputs = 1u << board->diagram->contacts;
     for (unsigned i = 0; i < HOLD_SETS; i++) {
-        random_holds(dice, board->lines, i % 2, &holds);
-        board->demands->hold_sets++;
+        draw_hold_set(dice, board, &netlist, i % 2);
         for (uint32_t k = 0; k < SOME_INPUTS && k < inputs; k++) {
             uint32_t input = inputs <= SOME_INPUTS ? k : roll(dice, inputs);
             if (!run_board(board, input) || !check_one_way(board, input, i % 2))
@@ -352,13 +361,14 @@ static bool is_code(unsigned output)
     return pairs[2 * output] != pairs[2 * output + 1];
 }
 
-/* At any rails, with lines of the plain board held in any way: the lamp is a code exactly if every pair is. */
+/* At any rails, with lines and pins of the plain board held in any way: the lamp is a code exactly if every pair is. */
 static bool check_lamp_is_code(struct dice *dice, const struct board *board)
 {
     unsigned m = board->diagram->outputs;
+    struct sites plain = sites_of(&netlist);
     for (unsigned i = 0; i < HOLD_SETS; i++) {
         random_rails(dice, board->diagram->contacts, &rails);
-        random_holds(dice, board->lines, roll(dice, 3), &holds);
+        random_holds(dice, &plain, roll(dice, 3), &holds);
         if (!run_file(board, &with_lamp))
             return false;
         bool codes = true;
@@ -372,7 +382,7 @@ static bool check_lamp_is_code(struct dice *dice, const struct board *board)
     return true;
 }
 
-/* The lamp's true line at a code input with no line held: 1 if the count of outputs that are 0 is even. */
+/* The lamp's true line at a code input with nothing held: 1 if the count of outputs that are 0 is even. */
 static unsigned own_code(const struct board *board, uint32_t input)
 {
     unsigned even = 1;
@@ -381,7 +391,8 @@ static unsigned own_code(const struct board *board, uint32_t input)
     return even;
 }
 
-/* At a code input, with lines held all at `way`, those of the lamp too: its own code, which it has with none held, or `way` twice. */
+/* At a code input, with lines and pins held all at `way`, those of the lamp too: its own code, which it has with none held, or `way`
+ * twice. */
 static bool check_lamp_one_way(const struct board *board, uint32_t input, unsigned way)
 {
     unsigned m = board->diagram->outputs;
@@ -396,9 +407,9 @@ static bool check_lamp_one_way(const struct board *board, uint32_t input, unsign
         return false;
     unsigned even = own_code(board, input);
     if (own[0] != even || own[1] != 1 - even)
-        return fail(board, "input %" PRIu32 ", no line held: the lamp shows %u%u", input, own[0], own[1]);
+        return fail(board, "input %" PRIu32 ", nothing held: the lamp shows %u%u", input, own[0], own[1]);
     if (memcmp(pairs + 2 * m, own, 2) != 0 && (pairs[2 * m] != way || pairs[2 * m + 1] != way))
-        return fail(board, "input %" PRIu32 ", %zu lines held at %u: the lamp shows %u%u", input, holds.length / 3, way, pairs[2 * m],
+        return fail(board, "input %" PRIu32 ", %zu holds at %u: the lamp shows %u%u", input, holds.length / 3, way, pairs[2 * m],
                     pairs[2 * m + 1]);
     board->demands->lamp_one_way++;
     board->demands->lamp_no_codes += !is_code(m);
@@ -411,8 +422,7 @@ static bool check_lamp(struct dice *dice, const struct board *board)
     if (!build_lamp(board) || !check_lamp_is_code(dice, board))
         return false;
     for (unsigned i = 0; i < HOLD_SETS; i++) {
-        random_holds(dice, lines_of(&with_lamp), i % 2, &holds);
-        board->demands->hold_sets++;
+        draw_hold_set(dice, board, &with_lamp, i % 2);
         for (unsigned k = 0; k < 4; k++)
             if (!check_lamp_one_way(board, roll(dice, inputs), i % 2))
                 return false;
@@ -420,77 +430,113 @@ static bool check_lamp(struct dice *dice, const struct board *board)
     return true;
 }
 
-/* Where the probe of a held line shows it the lamp shows it, too. */
-static bool check_seen_at_lamp(const struct board *board, unsigned line, unsigned way, uint32_t input)
+/* ---- Probe against runs at every input from 0 up. ---- */
+
+/* One hold: of a line, or of the first or second pin of its gate. */
+struct held {
+    unsigned line, value;
+};
+
+__attribute__((format(printf, 3, 4)))
+static bool fail_held(const struct board *board, struct held held, const char *what, ...)
 {
-    unsigned m = board->diagram->outputs;
+    static const char *const names[] = {"line", "the first pin of", "the second pin of"};
+    char text[160];
+    va_list args;
+    va_start(args, what);
+    vsnprintf(text, sizeof text, what, args);
+    va_end(args);
+    return fail(board, "%s %u held at %u %s", names[held.value / 2], held.line, held.value % 2, text);
+}
+
+/* Where a probe shows what is held the lamp shows it, too. */
+static bool check_seen_at_lamp(const struct board *board, struct held held, uint32_t input)
+{
+    unsigned m = board->diagram->outputs, way = held.value % 2;
     code_rails(board->diagram->contacts, input, &rails);
     if (!run_file(board, &with_lamp))
         return false;
     if (pairs[2 * m] != way || pairs[2 * m + 1] != way)
-        return fail(board, "line %u held at %u is seen at input %" PRIu32 ", and the lamp shows %u%u", line, way, input, pairs[2 * m],
-                    pairs[2 * m + 1]);
+        return fail_held(board, held, "is seen at input %" PRIu32 ", and the lamp shows %u%u", input, pairs[2 * m], pairs[2 * m + 1]);
     board->demands->lamp_seen++;
     return true;
 }
 
-/* ---- Probe against runs at every input from 0 up. ---- */
-
-/* A pair is no code at an input, and was a code at every smaller one. */
-static bool check_seen(const struct board *board, const pilgodur_probed *probed, unsigned line, unsigned way, uint32_t input,
-                       unsigned output)
+/* Whether probe returns this, and its buffer holds the netlist and the lines of the last run. */
+static bool check_probed(const struct board *board, struct held held, const pilgodur_probed *probed, const pilgodur_probed *expected)
 {
-    if (!is_read[line])
-        return fail(board, "nothing reads line %u, and held at %u it shows at input %" PRIu32, line, way, input);
-    if (pairs[2 * output] != way)
-        return fail(board, "line %u held at %u shows the other value twice", line, way);
-    if (probed->refusal != 0 || probed->input != input || probed->output != output || probed->way != way)
-        return fail(board, "probe returns %" PRIu32 ", %" PRIu32 ", %" PRIu32 ", %" PRIu32 "; runs give input %" PRIu32
-                    ", output %u, way %u", probed->refusal, probed->input, probed->output, probed->way, input, output, way);
+    if (memcmp(probed, expected, sizeof *probed) != 0)
+        return fail_held(board, held, "gives %" PRIu32 ", %" PRIu32 ", %" PRIu32 ", %" PRIu32 "; by runs the input is %" PRIu32
+                         ", the output %" PRIu32 ", the way %" PRIu32, probed->refusal, probed->input, probed->output, probed->way,
+                         expected->input, expected->output, expected->way);
     if (memcmp(probed_bytes, netlist.bytes, board->length) != 0 ||
         memcmp(probed_bytes + board->length, lines, board->lines) != 0)
-        return fail(board, "probe's buffer is not the netlist with the line values of the run");
-    return check_seen_at_lamp(board, line, way, input);
+        return fail_held(board, held, "is probed, and the buffer is not the netlist with the line values of the run");
+    return true;
+}
+
+/* A pair is no code at an input, and was a code at every smaller one. */
+static bool check_seen(const struct board *board, const pilgodur_probed *probed, struct held held, uint32_t input, unsigned output)
+{
+    pilgodur_probed expected = {0, input, output, held.value % 2};
+    if (held.value < 2 && !is_read[held.line])
+        return fail_held(board, held, "shows at input %" PRIu32 ", and nothing reads it", input);
+    if (pairs[2 * output] != expected.way)
+        return fail_held(board, held, "shows the other value twice");
+    return check_probed(board, held, probed, &expected) && check_seen_at_lamp(board, held, input);
 }
 
 /* No input shows the line. */
-static bool check_unseen(const struct board *board, const pilgodur_probed *probed, unsigned line, unsigned way)
+static bool check_unread(const struct board *board, const pilgodur_probed *probed, struct held held)
 {
-    if (is_read[line])
-        return fail(board, "line %u held at %u is unseen at every input", line, way);
+    if (is_read[held.line])
+        return fail_held(board, held, "is unseen at every input");
     if (probed->refusal != PILGODUR_REFUSAL_UNREAD)
-        return fail(board, "nothing reads line %u, and probe returns %" PRIu32, line, probed->refusal);
+        return fail_held(board, held, "gives %" PRIu32 ", and nothing reads it", probed->refusal);
     board->demands->unread++;
     return true;
 }
 
-static bool check_probe(const struct board *board, unsigned line, unsigned way)
+/* No input shows the pin. */
+static bool check_hidden(const struct board *board, const pilgodur_probed *probed, struct held held)
+{
+    static const pilgodur_probed expected = {0, 0, 0, PILGODUR_WAY_HIDDEN};
+    bool is_and = netlist.bytes[7 + 5 * (held.line - 2 - 2 * board->diagram->contacts)] == 0;
+    if (held.value != 3 || !is_and)
+        return fail_held(board, held, "is unseen at every input, and the gate is an %s", is_and ? "AND" : "OR");
+    board->demands->hidden++;
+    return run_board(board, 0) && check_probed(board, held, probed, &expected);
+}
+
+static bool check_probe(const struct board *board, struct held held)
 {
     holds.length = 0;
-    add_hold(&holds, line, way);
+    add_hold(&holds, held.line, held.value);
     pilgodur_probed probed = pilgodur_probe(board->table, board->table_length, holds.bytes, 3, probed_bytes,
                                             board->length + board->lines);
     board->demands->probes++;
+    board->demands->pin_probes += held.value > 1;
     for (uint32_t input = 0; input < 1u << board->diagram->contacts; input++) {
         if (!run_board(board, input))
             return false;
         for (unsigned j = 0; j < board->diagram->outputs; j++) {
             if (pairs[2 * j] == pairs[2 * j + 1])
-                return check_seen(board, &probed, line, way, input, j);
+                return check_seen(board, &probed, held, input, j);
             if (!right_code(board, j, input))
-                return fail(board, "line %u held at %u: a wrong code at input %" PRIu32, line, way, input);
+                return fail_held(board, held, "gives a wrong code at input %" PRIu32, input);
         }
     }
-    return check_unseen(board, &probed, line, way);
+    return held.value < 2 ? check_unread(board, &probed, held) : check_hidden(board, &probed, held);
 }
 
 static bool check_probes(const struct board *board)
 {
+    unsigned first = 2 + 2 * board->diagram->contacts;
     if (board->lines > SMALL_BOARD)
         return true;
     for (unsigned line = 2; line < board->lines; line++)
-        for (unsigned way = 0; way < 2; way++)
-            if (!check_probe(board, line, way))
+        for (unsigned value = 0; value < (line < first ? 2 : 6); value++)
+            if (!check_probe(board, (struct held){line, value}))
                 return false;
     return true;
 }
@@ -502,4 +548,40 @@ void check_board(struct dice *dice, const struct diagram *diagram, struct demand
     if (build_board(&board) && check_what_is_read(&board) && check_new_netlist(&board) &&
         check_sheet(&board, &netlist) && check_all_permits(dice, &board) && check_hold_sets(dice, &board) && check_lamp(dice, &board))
         check_probes(&board);
+}
+
+/* ---- The summary. ---- */
+
+static bool print_checked_boards(const struct demands *d)
+{
+    printf("boards checked by themselves: %lu, with %lu sheets, %lu runs, %lu sets held one way, %lu of them of lines and pins, %lu "
+           "probes, %lu of them of lines that nothing reads, %lu of pins, %lu of hidden ones\n",
+           d->boards, d->sheets, d->inputs, d->hold_sets, d->mixed_sets, d->probes, d->unread, d->pin_probes, d->hidden);
+    return d->mixed_sets != 0 && d->unread != 0 && d->hidden != 0 && d->hidden != d->pin_probes;
+}
+
+static bool print_checked_lamps(const struct demands *d)
+{
+    printf("their lamps: run with lines and pins held in any way %lu times, a code in %lu of them; held one way %lu times, no code in "
+           "%lu of them; %lu single lines and pins seen at the lamp\n",
+           d->lamp_runs, d->lamp_codes, d->lamp_one_way, d->lamp_no_codes, d->lamp_seen);
+    return d->lamp_codes != 0 && d->lamp_codes != d->lamp_runs && d->lamp_no_codes != 0 && d->lamp_no_codes != d->lamp_one_way &&
+           d->lamp_seen != 0;
+}
+
+static bool print_checked_tables(const struct demands *d)
+{
+    unsigned long refused = d->shared + d->unruled + d->rules_too_wide;
+    printf("drawings checked by themselves: %lu, %lu of them with more than eight functions in a level\n", d->drawings, d->too_wide);
+    printf("rule sheets checked by themselves: %lu, %lu of them with a shared input, %lu with one that fits none, %lu with more than "
+           "eight functions in a level\n", d->rule_sheets, d->shared, d->unruled, d->rules_too_wide);
+    return d->too_wide != 0 && d->too_wide != d->drawings && d->shared != 0 && d->unruled != 0 && d->rules_too_wide != 0 &&
+           refused != d->rule_sheets;
+}
+
+bool print_demands(const struct demands *demands)
+{
+    bool all = print_checked_boards(demands);
+    all = print_checked_lamps(demands) && all;
+    return print_checked_tables(demands) && all;
 }

@@ -8,7 +8,7 @@
 #include "rulesheets.h"
 
 struct demands {
-    unsigned long boards, sheets, inputs, hold_sets, probes, unread, drawings, too_wide, failures;
+    unsigned long boards, sheets, inputs, hold_sets, mixed_sets, probes, pin_probes, unread, hidden, drawings, too_wide, failures;
     unsigned long lamp_runs, lamp_codes, lamp_one_way, lamp_no_codes, lamp_seen;
     unsigned long rule_sheets, shared, unruled, rules_too_wide;
 };
@@ -18,12 +18,13 @@ struct demands {
  *   what is read in it: every gate, and of a contact both rails or, exactly if no output's value depends on it, neither;
  *   its sheet: read back, with the count of contacts, it is the netlist;
  *   its permits: at every code input each pair shows the table's value and its opposite;
- *   random sets of lines held all at 0 or all at 1: no pair shows the wrong code;
- *   its lamp: six gates a join after the board's own, at most 2 * ceil(log2(outputs)) more depth; with lines of the plain
- *   board held in any way, at any rails, a code exactly if every pair is; with lines held all one way, its own too, at code
- *   inputs, its code or 00 for lines held at 0 or 11 for lines held at 1;
- *   on small boards every line held at 0 and at 1: probe finds the smallest input that shows it, or refuses a line that nothing
- *   reads, and no input shows that one; where probe sees a line the lamp shows it, too.
+ *   random sets of lines and pins held all at 0 or all at 1: no pair shows the wrong code;
+ *   its lamp: six gates a join after the board's own, at most 2 * ceil(log2(outputs)) more depth; with lines and pins of the plain
+ *   board held in any way, at any rails, a code exactly if every pair is; with lines and pins held all one way, its own too, at code
+ *   inputs, its code or 00 for holds at 0 or 11 for holds at 1;
+ *   on small boards every line and pin held at 0 and at 1: probe finds the smallest input that shows it, or refuses a line that
+ *   nothing reads, or says that a pin is hidden, and no input shows these; only the first pin of an AND, at 1, is hidden; where probe
+ *   sees a line or pin the lamp shows it, too.
  * Large boards are run at some inputs only, but for every eighth of them. */
 void check_board(struct dice *dice, const struct diagram *diagram, struct demands *demands);
 
@@ -43,6 +44,9 @@ void check_drawing(struct dice *dice, const struct drawing *drawing, struct dema
  *   that check accepts the table, with the sheet's contacts and outputs;
  *   that at every input, or for many contacts at some, just one rule fits and read-off gives its word. */
 void check_rules(struct dice *dice, const struct rules *rules, struct demands *demands);
+
+/* Prints what was checked, and returns whether there was all that there can be. */
+bool print_demands(const struct demands *demands);
 
 /* Says which demand is not met, and by which file of this kind, and counts it. */
 void report_demand(struct demands *demands, const char *what, va_list args, const char *kind, const uint8_t *file, size_t length);

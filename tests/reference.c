@@ -410,12 +410,15 @@ static void write_file(const struct board *board, uint8_t *at)
 
 enum { UNKNOWN = -1 };
 
+/* What can be held of a wire: the line itself, and the two pins of its gate. */
+enum site { LINE, FIRST_PIN, SECOND_PIN, SITES };
+
 struct wire {
     bool is_gate;
     unsigned kind, left, right;
-    bool is_read; /* by some gate or output; mark_read tells */
-    int held;     /* UNKNOWN if it is not */
-    int value;    /* UNKNOWN until it is needed */
+    bool is_read;    /* by some gate or output; mark_read tells */
+    int held[SITES]; /* UNKNOWN where it is not */
+    int value;       /* UNKNOWN until it is needed */
 };
 
 struct netlist {
@@ -428,11 +431,11 @@ struct netlist {
 static int value_of(struct wire *wire, unsigned line)
 {
     struct wire *w = &wire[line];
-    if (w->held != UNKNOWN)
-        w->value = w->held;
+    if (w->held[LINE] != UNKNOWN)
+        w->value = w->held[LINE];
     if (w->value == UNKNOWN) {
-        int left = value_of(wire, w->left);
-        int right = value_of(wire, w->right);
+        int left = w->held[FIRST_PIN] != UNKNOWN ? w->held[FIRST_PIN] : value_of(wire, w->left);
+        int right = w->held[SECOND_PIN] != UNKNOWN ? w->held[SECOND_PIN] : value_of(wire, w->right);
         w->value = w->kind == 1 ? left || right : left && right;
     }
     return w->value;
@@ -471,7 +474,7 @@ static bool read_gates(struct netlist *netlist, const uint8_t *gates)
     bool sound = true;
     for (unsigned line = 0; line < netlist->lines; line++) {
         struct wire *w = &netlist->wire[line];
-        w->held = UNKNOWN;
+        w->held[LINE] = w->held[FIRST_PIN] = w->held[SECOND_PIN] = UNKNOWN;
         w->is_gate = line >= first_gate;
         if (!w->is_gate)
             continue;
@@ -529,18 +532,43 @@ static bool are_rails(const struct netlist *netlist, const uint8_t *rails, size_
     return true;
 }
 
-/* Question 14; the lines are held if it gets a yes. */
-static bool hold_lines(struct netlist *netlist, const uint8_t *holds, size_t length)
+struct hold {
+    unsigned line;
+    enum site site;
+    int level;
+};
+
+/* Reads a hold; whether the netlist has what it names: any line but the constants, and the pins of gates. */
+static bool read_hold(const struct netlist *netlist, const uint8_t *at, struct hold *hold)
 {
+    *hold = (struct hold){two_bytes(at), (enum site)(at[2] / 2), at[2] % 2};
+    if (hold->line >= netlist->lines)
+        return false;
+    return hold->site == LINE ? hold->line >= 2 : hold->site < SITES && netlist->wire[hold->line].is_gate;
+}
+
+/* Whether a hold may come right after another: lines before pins, either rising, and a gate's first pin before its second. */
+static bool may_follow(const struct hold *hold, const struct hold *before)
+{
+    bool pin = hold->site != LINE, pin_before = before->site != LINE;
+    if (pin != pin_before)
+        return pin;
+    if (hold->line != before->line)
+        return hold->line > before->line;
+    return before->site == FIRST_PIN && hold->site == SECOND_PIN;
+}
+
+/* Question 14; the lines and pins are held if it gets a yes. */
+static bool take_holds(struct netlist *netlist, const uint8_t *holds, size_t length)
+{
+    struct hold hold, before;
     if (length % 3 != 0)
         return false;
-    unsigned least = 2;
     for (size_t at = 0; at < length; at += 3) {
-        unsigned line = two_bytes(holds + at);
-        if (line < least || line >= netlist->lines || holds[at + 2] > 1)
+        if (!read_hold(netlist, holds + at, &hold) || (at > 0 && !may_follow(&hold, &before)))
             return false;
-        netlist->wire[line].held = holds[at + 2];
-        least = line + 1;
+        netlist->wire[hold.line].held[hold.site] = hold.level;
+        before = hold;
     }
     return true;
 }
@@ -589,20 +617,30 @@ static bool betrayed(struct netlist *netlist, uint32_t *output, uint32_t *way)
     return false;
 }
 
-/* Tries every code input from 0 up and leaves the rails of the first that betrays. There is one for a line that is read. */
-static void search(struct netlist *netlist, pilgodur_probed *probed)
+static void set_input(struct netlist *netlist, uint32_t input)
+{
+    uint8_t rails[24];
+    code_input(netlist->contacts, input, rails);
+    set_rails(netlist, rails);
+}
+
+/* Tries every code input from 0 up and leaves the rails of the first that betrays. Where none does a pin is hidden, and the rails are
+ * those of input 0; a line that is read never is. */
+static void search(struct netlist *netlist, bool is_line, pilgodur_probed *probed)
 {
     for (uint32_t input = 0; input >> netlist->contacts == 0; input++) {
-        uint8_t rails[24];
-        code_input(netlist->contacts, input, rails);
-        set_rails(netlist, rails);
+        set_input(netlist, input);
         if (betrayed(netlist, &probed->output, &probed->way)) {
             probed->input = input;
             return;
         }
     }
-    fputs("reference: a held line stays unseen at every code input\n", stderr);
-    abort();
+    if (is_line) {
+        fputs("reference: a held line stays unseen at every code input\n", stderr);
+        abort();
+    }
+    probed->way = 2;
+    set_input(netlist, 0);
 }
 
 /* ---- Sheets. ---- */
@@ -705,7 +743,7 @@ static uint32_t run(struct pool *pool, const uint8_t *file, size_t file_len, con
         return refusal;
     if (!are_rails(netlist, rails, rails_len))
         return 13;
-    if (!hold_lines(netlist, holds, holds_len))
+    if (!take_holds(netlist, holds, holds_len))
         return 14;
     set_rails(netlist, rails);
     return 0;
@@ -743,14 +781,16 @@ static pilgodur_probed probe(struct pool *pool, const struct diagram *diagram, c
     if (read_netlist(pool, file, length, &netlist) != 0)
         abort();
     mark_read(&netlist);
-    if (hold_len != 3 || !hold_lines(&netlist, hold, hold_len)) {
+    struct hold held;
+    if (hold_len != 3 || !read_hold(&netlist, hold, &held)) {
         answer.refusal = 14;
-    } else if (!netlist.wire[two_bytes(hold)].is_read) {
+    } else if (held.site == LINE && !netlist.wire[held.line].is_read) {
         answer.refusal = 15;
     } else if (buffer_len < length + netlist.lines) {
         answer.refusal = 9;
     } else {
-        search(&netlist, &answer);
+        netlist.wire[held.line].held[held.site] = held.level;
+        search(&netlist, held.site == LINE, &answer);
         memcpy(buffer, file, length);
         write_lines(&netlist, buffer + length);
     }

@@ -73,6 +73,13 @@ static void ask(const struct board *b, struct answers *a)
     a->ruled = pilgodur_from_rules(b->rules, b->rules_length, a->table_of_rules, sizeof a->table_of_rules);
 }
 
+static void set_hold(uint8_t hold[3], unsigned line, unsigned value)
+{
+    hold[0] = (uint8_t)(line / 256);
+    hold[1] = (uint8_t)line;
+    hold[2] = (uint8_t)value;
+}
+
 static void draw_rule_sheet(struct dice *dice, struct board *b)
 {
     struct diagram diagram;
@@ -82,6 +89,25 @@ static void draw_rule_sheet(struct dice *dice, struct board *b)
     b->rules_length = write_rules(&rules, b->rules);
     if (chance(dice, 20))
         b->rules[roll(dice, (uint32_t)b->rules_length)] ^= 1;
+}
+
+/* Makes the hold that of a rail or, more often, of a pin: if there is a hidden one among the first gates it is that. */
+static void draw_hold(struct dice *dice, const struct diagram *diagram, struct board *b)
+{
+    static uint8_t buffer[BUFFER];
+    unsigned first = 2 + 2 * diagram->contacts, gates = pilgodur_check(b->table, b->table_length).gates;
+    unsigned line = 2 + roll(dice, 2 * diagram->contacts), value = roll(dice, 2);
+    if (gates > 0 && chance(dice, 60)) {
+        line = first + roll(dice, gates);
+        value = 2 + roll(dice, 4);
+    }
+    set_hold(b->hold, line, value);
+    for (unsigned g = 0; value > 1 && g < gates && g < 100; g++) {
+        uint8_t hold[3];
+        set_hold(hold, first + g, 3);
+        if (pilgodur_probe(b->table, b->table_length, hold, 3, buffer, BUFFER).way == PILGODUR_WAY_HIDDEN)
+            memcpy(b->hold, hold, 3);
+    }
 }
 
 static void draw_board(struct dice *dice, struct board *b)
@@ -99,13 +125,12 @@ static void draw_board(struct dice *dice, struct board *b)
     b->rails_length = 2 * (size_t)diagram.contacts;
     for (size_t i = 0; i < b->rails_length; i++)
         b->rails[i] = (uint8_t)roll(dice, 2);
-    unsigned line = 2 + roll(dice, 2 * diagram.contacts);
-    memcpy(b->hold, (uint8_t[]){(uint8_t)(line / 256), (uint8_t)line, (uint8_t)roll(dice, 2)}, 3);
+    draw_hold(dice, &diagram, b);
     b->input = roll(dice, 1u << diagram.contacts);
     drawing_of(&diagram, &drawing);
     redraw(dice, roll(dice, MOST_NODES + 1), &drawing);
     b->drawing_length = write_drawing(&drawing, b->drawing);
-    if (chance(dice, 20))
+    if (chance(dice, 40))
         b->drawing[roll(dice, (uint32_t)b->drawing_length)] ^= 1;
     if (chance(dice, 20))
         b->table[roll(dice, (uint32_t)b->table_length)] ^= 1;
@@ -167,7 +192,7 @@ int main(int argc, char **argv)
 {
     static const char *const verdict[] = {"DIFFERENT ANSWERS", "the same answers"};
     struct dice dice = {1};
-    unsigned accepted = 0, lamps = 0, unread = 0, drawn = 0, ruled = 0;
+    unsigned accepted = 0, lamps = 0, unread = 0, pins = 0, hidden = 0, drawn = 0, ruled = 0;
     if (argc > 1)
         rounds = (unsigned)strtoul(argv[1], NULL, 10);
     for (unsigned i = 0; i < BOARDS; i++) {
@@ -176,15 +201,18 @@ int main(int argc, char **argv)
         accepted += expected[i].checked.refusal == 0;
         lamps += boards[i].has_lamp;
         unread += expected[i].probed.refusal == PILGODUR_REFUSAL_UNREAD;
+        pins += boards[i].hold[2] > 1;
+        hidden += expected[i].probed.way == PILGODUR_WAY_HIDDEN;
         drawn += expected[i].drawn.refusal == 0;
         ruled += expected[i].ruled.refusal == 0;
     }
     bool threads_agree = run_threads();
     bool overlaps_agree = overlaps();
-    printf("threads: %d threads, %d boards (%u accepted, %u netlists with a lamp, %u with a spare rail held, %u with a good drawing, %u "
-           "with a good rule sheet), %u rounds: %s; overlapping strings: %s\n",
-           THREADS, BOARDS, accepted, lamps, unread, drawn, ruled, rounds, verdict[threads_agree], verdict[overlaps_agree]);
+    printf("threads: %d threads, %d boards (%u accepted, %u netlists with a lamp, %u with a spare rail held, %u with a pin held, %u with a "
+           "hidden one, %u with a good drawing, %u with a good rule sheet), %u rounds: %s; overlapping strings: %s\n",
+           THREADS, BOARDS, accepted, lamps, unread, pins, hidden, drawn, ruled, rounds, verdict[threads_agree],
+           verdict[overlaps_agree]);
     bool all_kinds = accepted > BOARDS / 2 && accepted < BOARDS && lamps > 0 && lamps < BOARDS && unread > 0 &&
-                     drawn > BOARDS / 2 && drawn < BOARDS && ruled > BOARDS / 2 && ruled < BOARDS;
+                     pins > hidden && hidden > 0 && pins < BOARDS && drawn > BOARDS / 2 && drawn < BOARDS && ruled > BOARDS / 2 && ruled < BOARDS;
     return threads_agree && overlaps_agree && all_kinds ? 0 : 1;
 }
