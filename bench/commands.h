@@ -17,6 +17,7 @@ struct request {
     bool lines;         /* --lines */
     bool all;           /* --all */
     bool lamp;          /* --lamp */
+    bool pins;          /* --pins */
     uint8_t *notes;     /* --note: the fields, in their order */
     size_t notes_length;
     enum format format;

@@ -75,8 +75,10 @@ static void run_and_show(const struct request *request, const struct netlist *ne
 {
     uint8_t pairs[PILGODUR_PAIRS_MAX];
     uint32_t refusal = run_holding(netlist, rails, holds, holds->count, pairs);
-    if (refusal == PILGODUR_REFUSAL_HOLDS)
-        refuse(refusal, "%s with hold %s", netlist->name, request->operand[2 + refused_hold(netlist, rails, holds)]);
+    if (refusal == PILGODUR_REFUSAL_HOLDS) {
+        size_t i = refused_hold(netlist, rails, holds);
+        refuse_hold(refusal, netlist->name, request->operand[2 + i], holds->at + 3 * i);
+    }
     if (refusal != 0)
         refuse(refusal, "%s with rails %s", netlist->name, rails->name);
     for (unsigned j = 0; j < netlist->outputs; j++)

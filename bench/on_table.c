@@ -71,6 +71,20 @@ enum status read_off(struct request *request, FILE *out)
     return ANSWERED;
 }
 
+/* Where a hold shows, if it does. With the line values of a hidden pin comes the input at which they are. */
+static void show_probed(FILE *out, const pilgodur_probed *probed, unsigned contacts, bool lines)
+{
+    bool hidden = probed->way == PILGODUR_WAY_HIDDEN;
+    fputs(hidden ? "is hidden: no input shows it\n" : "shows at ", out);
+    if (!hidden) {
+        show_input(out, probed->input, contacts);
+        show_pair(out, probed->output, probed->way, probed->way);
+    } else if (lines) {
+        fputs("the lines at ", out);
+        show_input(out, probed->input, contacts);
+    }
+}
+
 enum status probe(struct request *request, FILE *out)
 {
     uint8_t hold[3];
@@ -78,13 +92,12 @@ enum status probe(struct request *request, FILE *out)
     const struct file *table = load_operand(request, 0);
     pilgodur_probed probed = pilgodur_probe(table->at, table->length, hold, sizeof hold, room, sizeof room);
     if (probed.refusal == PILGODUR_REFUSAL_HOLDS || probed.refusal == PILGODUR_REFUSAL_UNREAD)
-        refuse(probed.refusal, "%s with hold %s", table->name, request->operand[1]);
+        refuse_hold(probed.refusal, table->name, request->operand[1], hold);
     if (probed.refusal != 0)
         refuse(probed.refusal, "%s", table->name);
     pilgodur_checked checked = checked_table(table);
-    fprintf(out, "line %u held at %u shows at ", two_bytes(hold), hold[2]);
-    show_input(out, probed.input, checked.contacts);
-    show_pair(out, probed.output, probed.way, probed.way);
+    fprintf(out, "%s %s held at %u ", held_site(hold) == 0 ? "line" : "pin", held_name(hold).text, held_value(hold));
+    show_probed(out, &probed, checked.contacts, request->lines);
     if (request->lines) {
         uint32_t netlist = 10 + 5 * checked.gates + 4 * checked.outputs;
         show_lines(out, room + netlist, 2 + 2 * checked.contacts + checked.gates, hold, sizeof hold);

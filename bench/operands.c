@@ -4,10 +4,14 @@
 #include <string.h>
 
 #include "../include/pilgodur.h"
+#include "fields.h"
 #include "report.h"
 
 static const char contacts_mark[] = "contacts:";
 enum { MARK = sizeof contacts_mark - 1 };
+
+/* The last byte of a hold whose pin, or whose value, there is not. */
+enum { NO_PIN = UINT8_MAX - 1, NO_VALUE = UINT8_MAX };
 
 /* Reads the digits at the start of a text, a number above `most` as `most`; returns what follows them. */
 static const char *read_digits(const char *text, uint32_t most, uint32_t *number)
@@ -74,14 +78,69 @@ void set_rails(uint32_t input, unsigned contacts, uint8_t *rails)
     }
 }
 
-void read_hold(const char *text, uint8_t *hold)
+void put_hold(uint8_t *hold, unsigned line, unsigned site, unsigned value)
 {
-    uint32_t line, value = 0;
-    const char *equals = read_digits(text, UINT16_MAX, &line);
-    const char *end = *equals == '=' ? read_digits(equals + 1, UINT8_MAX, &value) : equals;
-    if (equals == text || *equals != '=' || end == equals + 1 || *end != '\0')
-        fail(MISUSED, "%s: not a hold; write LINE=VALUE, as in 10=0", text);
     hold[0] = (uint8_t)(line / 256);
     hold[1] = (uint8_t)line;
-    hold[2] = (uint8_t)value;
+    hold[2] = (uint8_t)(2 * site + value);
+}
+
+unsigned held_site(const uint8_t *hold)
+{
+    return hold[2] / 2;
+}
+
+unsigned held_value(const uint8_t *hold)
+{
+    return hold[2] % 2;
+}
+
+struct held_text held_name(const uint8_t *hold)
+{
+    struct held_text name;
+    if (held_site(hold) == 0)
+        snprintf(name.text, sizeof name.text, "%u", two_bytes(hold));
+    else
+        snprintf(name.text, sizeof name.text, "%u.%u", two_bytes(hold), held_site(hold));
+    return name;
+}
+
+/* Takes a number of at least one digit; false if there is none. */
+static bool take_number(const char **text, uint32_t most, uint32_t *number)
+{
+    const char *start = *text;
+    *text = read_digits(start, most, number);
+    return *text > start;
+}
+
+static bool take_sign(const char **text, char sign)
+{
+    bool found = **text == sign;
+    *text += found;
+    return found;
+}
+
+void read_hold(const char *text, uint8_t *hold)
+{
+    uint32_t line, pin = 0, value = 0;
+    const char *at = text;
+    bool formed = take_number(&at, UINT16_MAX, &line);
+    bool of_pin = take_sign(&at, '.');
+    if (of_pin)
+        formed = take_number(&at, UINT8_MAX, &pin) && formed;
+    if (!formed || !take_sign(&at, '=') || !take_number(&at, UINT8_MAX, &value) || *at != '\0')
+        fail(MISUSED, "%s: not a hold; write LINE=VALUE, as in 10=0, or LINE.PIN=VALUE, as in 8.1=0", text);
+    put_hold(hold, line, pin, value);
+    if (of_pin && pin != 1 && pin != 2)
+        hold[2] = NO_PIN;
+    else if (value > 1)
+        hold[2] = NO_VALUE;
+}
+
+void refuse_hold(uint32_t refusal, const char *name, const char *text, const uint8_t *hold)
+{
+    const char *fault = hold[2] == NO_PIN     ? ": the pins of a gate are 1 and 2"
+                        : hold[2] == NO_VALUE ? ": the value must be 0 or 1"
+                                              : "";
+    refuse(refusal, "%s with hold %s%s", name, text, fault);
 }

@@ -31,8 +31,24 @@ struct contacts_text contacts_at(uint32_t input, unsigned contacts);
 /* The rails of an input, two bytes a contact. */
 void set_rails(uint32_t input, unsigned contacts, uint8_t *rails);
 
-/* Reads LINE=VALUE into three bytes. A line above 65,535 and a value above 255 become those, which no netlist has: question 14 refuses
- * them like any other that is too large. Text of another form ends the program. */
+/* A hold is three bytes: a line, then twice a site and the value, 0 or 1. Site 0 is the line itself; 1 and 2 are the first and the
+ * second pin of its gate. */
+void put_hold(uint8_t *hold, unsigned line, unsigned site, unsigned value);
+unsigned held_site(const uint8_t *hold);
+unsigned held_value(const uint8_t *hold);
+
+/* What is held: LINE, or LINE.1 or LINE.2 for a pin. */
+struct held_text {
+    char text[5 + 4 + 1];
+};
+struct held_text held_name(const uint8_t *hold);
+
+/* Reads LINE=VALUE, or LINE.PIN=VALUE, into three bytes. A line above 65,535 becomes that one; a value that is neither 0 nor 1, and a
+ * pin that is neither 1 nor 2, become a last byte that no hold has. So question 14 refuses all of them, and none becomes another hold.
+ * Text of another form ends the program. */
 void read_hold(const char *text, uint8_t *hold);
+
+/* Refuses a file with a hold, by its text and its bytes: says which pins and values there are, if it has another. */
+_Noreturn void refuse_hold(uint32_t refusal, const char *name, const char *text, const uint8_t *hold);
 
 #endif

@@ -10,10 +10,10 @@
 #include "save.h"
 
 /* What stands for each option: its letter, or a number above all letters. */
-enum option_name { OUTPUT = 'o', HELP = 'h', VERSION = 'V', OPERAND = 1, LINES = 256, ALL, LAMP, NOTE, AS_BLIF, AS_VERILOG, AS_DOT };
+enum option_name { OUTPUT = 'o', HELP = 'h', VERSION = 'V', OPERAND = 1, LINES = 256, ALL, LAMP, PINS, NOTE, AS_BLIF, AS_VERILOG, AS_DOT };
 
 /* The options of one command. */
-enum { TAKES_OUTPUT = 1, TAKES_LINES = 2, TAKES_ALL = 4, TAKES_FORMAT = 8, TAKES_LAMP = 16, TAKES_NOTE = 32 };
+enum { TAKES_OUTPUT = 1, TAKES_LINES = 2, TAKES_ALL = 4, TAKES_FORMAT = 8, TAKES_LAMP = 16, TAKES_NOTE = 32, TAKES_PINS = 64 };
 
 static const struct {
     const char *name;
@@ -30,7 +30,7 @@ static const struct {
     {"read-off", read_off, 2, 2, 0},
     {"run", run, 2, INT_MAX, TAKES_LINES},
     {"probe", probe, 2, 2, TAKES_LINES},
-    {"dictionary", dictionary, 1, 1, TAKES_OUTPUT},
+    {"dictionary", dictionary, 1, 1, TAKES_OUTPUT | TAKES_PINS},
     {"export", export_netlist, 1, 1, TAKES_OUTPUT | TAKES_FORMAT | TAKES_LAMP},
     {"notes", notes, 1, 1, 0},
 };
@@ -40,8 +40,8 @@ static const struct option options[] = {
     {"all", no_argument, NULL, ALL},             {"lamp", no_argument, NULL, LAMP},
     {"blif", no_argument, NULL, AS_BLIF},        {"verilog", no_argument, NULL, AS_VERILOG},
     {"dot", no_argument, NULL, AS_DOT},          {"note", required_argument, NULL, NOTE},
-    {"help", no_argument, NULL, HELP},           {"version", no_argument, NULL, VERSION},
-    {NULL, 0, NULL, 0},
+    {"pins", no_argument, NULL, PINS},           {"help", no_argument, NULL, HELP},
+    {"version", no_argument, NULL, VERSION},     {NULL, 0, NULL, 0},
 };
 
 static const char help[] =
@@ -57,9 +57,11 @@ static const char help[] =
     "                                  first of them (all of them with --all), every output that differs, and the lamp if it does\n"
     "  read-off TABLE INPUT            show every permit that the table gives at an input\n"
     "  run NETLIST INPUT|RAILS [HOLD...] [--lines]\n"
-    "                                  run a netlist with lines held; show the output pairs, and the lamp if there is one\n"
-    "  probe TABLE HOLD [--lines]      find the smallest input at which a held line shows\n"
-    "  dictionary TABLE [-o FILE]      probe every line at both values; write the answers as CSV; unread: nothing reads the line\n"
+    "                                  run a netlist with lines and pins held; show the output pairs, and the lamp if there is one\n"
+    "  probe TABLE HOLD [--lines]      find the smallest input at which a held line or pin shows, or say that the pin is hidden\n"
+    "  dictionary TABLE [--pins] [-o FILE]\n"
+    "                                  probe every line at both values; write the answers as CSV; unread: nothing reads the line;\n"
+    "                                  hidden: no input shows the pin\n"
     "  export TABLE|NETLIST --blif|--verilog|--dot [--lamp] [-o FILE]\n"
     "                                  write the netlist for other tools, line 8 as the net l8\n"
     "  notes TABLE|NETLIST|DRAWING|RULES\n"
@@ -75,12 +77,15 @@ static const char help[] =
     "input must fit just one rule.\n"
     "INPUT is a decimal number in which contact i has the weight 2^i, or contacts: and a sign for each contact, contact 0 first,\n"
     "1 closed and 0 open: contacts:110 is 3. RAILS has a byte 0 or 1 for each rail in line order; a path that reads like an input\n"
-    "is written @PATH there. HOLD is LINE=VALUE, as in 10=0; several stand in rising order of lines.\n"
+    "is written @PATH there. HOLD is LINE=VALUE, as in 10=0, or LINE.1=VALUE or LINE.2=VALUE for the first or second pin of that\n"
+    "line's gate, as in 8.1=0: the gate reads VALUE there in place of its first or second source. Of several holds those of lines\n"
+    "stand first, rising, then those of pins by rising gate, the first before the second.\n"
     "\n"
     "  -o, --output FILE   write the answer to FILE, whole or not at all; draw, rules and build then write the file's bytes.\n"
     "                      - is standard output. FILE must not be one of the files read.\n"
     "      --lines         also show the value of every line\n"
     "      --all           show every gate that differs\n"
+    "      --pins          probe both pins of every gate, too; their rows stand last\n"
     "      --lamp          build tables with the lamp, one pair for all outputs; a netlist has its own or none and stays as it is\n"
     "      --note TEXT     put a note with this text last in the netlist file; several stand in the order in which they are given\n"
     "      --blif, --verilog, --dot   the form of an export\n"
@@ -155,6 +160,9 @@ static unsigned take_option(int found, const char *word, struct request *request
     case LAMP:
         request->lamp = true;
         return TAKES_LAMP;
+    case PINS:
+        request->pins = true;
+        return TAKES_PINS;
     case NOTE:
         add_note(request);
         return TAKES_NOTE;
@@ -205,6 +213,7 @@ static const char *option_text(unsigned taken)
            : taken & TAKES_ALL   ? "--all"
            : taken & TAKES_LAMP  ? "--lamp"
            : taken & TAKES_NOTE  ? "--note"
+           : taken & TAKES_PINS  ? "--pins"
                                  : "--blif, --verilog or --dot";
 }
 

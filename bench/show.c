@@ -43,13 +43,20 @@ void show_input(FILE *out, uint32_t input, unsigned contacts)
     fprintf(out, "input %" PRIu32 ", %s\n", input, contacts_at(input, contacts).text);
 }
 
+/* Lines are held by the first of the holds, pins by the others, both rising. */
 void show_lines(FILE *out, const uint8_t *values, unsigned count, const uint8_t *holds, size_t holds_length)
 {
-    size_t h = 0;
+    size_t h = 0, first_pin = 0;
+    while (first_pin < holds_length && held_site(holds + first_pin) == 0)
+        first_pin += 3;
+    size_t p = first_pin;
     fprintf(out, "  line  value\n");
     for (unsigned line = 0; line < count; line++) {
-        bool held = h < holds_length && two_bytes(holds + h) == line;
-        fprintf(out, "%6u  %5u%s\n", line, values[line], held ? "  held" : "");
+        bool held = h < first_pin && two_bytes(holds + h) == line;
+        fprintf(out, "%6u  %5u%s", line, values[line], held ? "  held" : "");
         h += held ? 3 : 0;
+        for (; p < holds_length && two_bytes(holds + p) == line; p += 3)
+            fprintf(out, "  %s=%u held", held_name(holds + p).text, held_value(holds + p));
+        fputc('\n', out);
     }
 }

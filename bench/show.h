@@ -19,7 +19,7 @@ void show_lamp(FILE *out, unsigned yes, unsigned no);
 /* The input's number, and which contacts are closed. */
 void show_input(FILE *out, uint32_t input, unsigned contacts);
 
-/* The value of every line, and which lines are held. */
+/* The value of every line, which lines are held, and which pins of their gates. */
 void show_lines(FILE *out, const uint8_t *values, unsigned count, const uint8_t *holds, size_t holds_length);
 
 #endif

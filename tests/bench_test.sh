@@ -570,6 +570,27 @@ try run lift-lamp.netlist 5 34=0
 pipe 'pilgodur build --lamp single.table | pilgodur run - 1 2=0'
 pipe 'pilgodur build --lamp $both_spare | pilgodur run - 1'
 pipe 'pilgodur run widest-lamp.netlist 4095 | tail -n 2'
+# Pins: each of an AND at either value, where one source is 1 and the other 0; of an OR; that of one of a rail's two readers.
+for hold in 8.1=0 8.1=1 8.2=0 8.2=1; do
+    try run selector.netlist 2 $hold --lines
+done
+try run selector.netlist 4 16.1=0
+try run selector.netlist 4 16.2=0
+try run selector.netlist 0 14.2=1 16.1=1
+try run selector.netlist 1 9.1=0 --lines
+# Both pins of a gate; a line and its pins, where the line's hold decides; lines and pins of other gates; no code input; all pins.
+try run selector.netlist 2 8.1=1 8.2=1
+try run selector.netlist 0 8=1 8.1=0 8.2=0 --lines
+try run selector.netlist 0 8=0 8.1=1 8.2=1 --lines
+try run selector.netlist contacts:011 2=1 12=0 16=0 8.2=1 12.1=1 12.2=0 16.2=1 --lines
+try run selector.netlist hex:000000000000 13.1=1 13.2=1
+pipe 'pilgodur run selector.netlist 5 $(seq 8 16 | sed "s/.*/&.1=1 &.2=1/")'
+# Leading zeros; a pin that reads a constant, one of a gate that has one source twice; pins of the lamp's own gates.
+try run selector.netlist 2 008.02=01
+try run "$(netlist 1 'AND 1 2 OR 4 4 OR 4 4' '4 5 5 6')" 0 4.1=0 4.2=1 5.2=1 6.1=1 --lines
+try run lift-lamp.netlist 5 33.1=1 33.2=1
+try run lift-lamp.netlist 5 28=0 28.1=1 33.2=1 --lines
+pipe 'pilgodur run widest.netlist 4095 1383=0 1383.1=0 1384.2=1 1813.1=1 1813.2=0 --lines | cksum'
 try run hex:010001010400000500040002000306000400020004 0
 try run selector.table 0
 try run $q12 0
@@ -597,6 +618,21 @@ try run selector.netlist @no-such.rails
 for hold in 16 16= =0 16=0x 16=0=0 16=-1 x=0; do
     try run selector.netlist 0 "$hold"
 done
+# Question 14: pins of constants, of rails, of a line that is not there; a pin, a line or a value that there is not, also if its bytes are
+# those of another hold; a line after a pin; the second pin before the first; a pin twice; a gate before another; several good holds first.
+for holds in 0.1=0 1.2=1 2.1=0 7.2=1 17.1=0 65536.1=0 65544.1=0 8.0=1 8.3=0 8.128=0 8.129=0 8.4294967297=0 8=2 8=3 8=4 8=5 8=6 8.1=2 8.1=3 \
+    8.2=2 8.2=255 8.1=256 8.1=254 8.3=2 '8.1=0 8=0' '8.1=0 16=1' '8.2=0 8.1=0' '8.1=0 8.1=0' '8.2=0 8.2=1' '9.1=0 8.2=0' '8=0 8=1 8.1=0' \
+    '8=0 16=1 8.1=0 9.2=1 7.1=0' '8=0 8.1=0 9.2=2'; do
+    # shellcheck disable=SC2086
+    try run selector.netlist 0 $holds
+done
+try run lift-lamp.netlist 5 34.1=0
+try run "$(netlist 1 '' '2 3')" 0 4.1=0
+# Text that is no hold.
+for hold in 8.1 8.1= 8.=0 .1=0 8..1=0 8.1.1=0 8.x=0 8.1=0x 8,1=0 8.-1=0 8.1=0.5 '8. 1=0' 8:1=0 8.1=1=1 8=0.1 .=0 8.=; do
+    try run selector.netlist 0 "$hold"
+done
+try run selector.netlist 0 8=0 8.1
 judge
 
 transcript probe
@@ -614,11 +650,32 @@ for hold in 2=0 2=1 3=0 8=1 9=0 1=0 2=2 13=0; do
 done
 try probe spare.table 9=1 --lines
 try probe $both_spare 5=0
+# Pins that show, and pins that are hidden, with the line values at the input 0.
+for hold in 8.1=0 8.1=1 8.2=0 8.2=1 9.1=1 10.1=1 10.2=0 15.1=1; do
+    try probe selector.table $hold
+done
+try probe selector.table 8.1=1 --lines
+try probe selector.table 8.2=1 --lines
+try probe spare.table 10.1=1 --lines
+try probe spare.table 12.1=1
+try probe lift.table 19.1=1
+try probe lift.table 19.2=1
+try probe widest.table 1274.1=1
+try probe widest.table 1274.1=0
+pipe 'pilgodur probe widest.table 1289.1=1 --lines | cksum'
+for hold in 1.1=0 2.1=0 7.2=1 17.1=0 8=2 8.1=2 8.2=5 8.0=0 8.3=1 65544.1=0; do
+    try probe selector.table $hold
+done
+try probe spare.table 2.1=1
+try probe single.table 4.1=0
+try probe $q6 8.1=1
 try probe selector.table 17=0
 try probe selector.table 65546=0
 try probe selector.table 10=256
 try probe $q6 2=0
 try probe selector.table 10
+try probe selector.table 8.1
+try probe selector.table 8.1=0 8.2=0
 judge
 
 transcript compare
@@ -680,6 +737,15 @@ try dictionary $both_spare
 pipe '(ulimit -t 1; pilgodur dictionary widest.table) | cksum' # in a second of processor time
 try dictionary lift.table -o lift.csv
 pipe 'head -n 3 lift.csv; wc -l <lift.csv'
+# With pins: after the rows of the lines, which stay as they are.
+try dictionary --pins selector.table
+try dictionary spare.table --pins
+try dictionary single.table --pins
+try dictionary $both_spare --pins
+try dictionary lift.table --pins -o pins.csv
+pipe 'head -n 41 pins.csv | cmp - lift.csv; sed "1,41d" pins.csv'
+pipe '(ulimit -t 2; pilgodur dictionary widest.table --pins) >pins.csv; cksum <pins.csv; grep -n hidden pins.csv; tail -n 4 pins.csv'
+try dictionary $q6 --pins
 try dictionary $q6
 try dictionary selector.netlist
 judge
@@ -795,7 +861,9 @@ pipe 'pilgodur run noted-widest.netlist 4095 1383=0 1384=1 --lines | cksum'
 try run noted.netlist 8
 try probe noted.table 10=1
 try probe noted-spare.table 2=0
-pipe 'pilgodur dictionary noted.table >noted.csv; pilgodur dictionary selector.table | cmp - noted.csv'
+pipe 'pilgodur dictionary noted.table --pins >noted.csv; pilgodur dictionary selector.table --pins | cmp - noted.csv'
+try probe noted.table 9.1=1
+try run noted.netlist 2 8.2=1
 for format in --blif --verilog --dot; do
     pipe "pilgodur export noted-lamp.netlist $format >noted.out; pilgodur export lift.table --lamp $format | cmp - noted.out"
     pipe "pilgodur export noted.table $format >noted.out; pilgodur export selector.table $format | cmp - noted.out"
@@ -876,6 +944,11 @@ try check selector.table --lamp
 try run selector.netlist 3 --lamp
 try probe selector.table 10=0 --lamp
 try dictionary selector.table --lamp
+try check selector.table --pins
+try probe selector.table 8.1=0 --pins
+try run selector.netlist 3 8.1=0 --pins
+try dictionary selector.table --pins=1
+pipe 'pilgodur --pin dictionary single.table | cksum'
 try build selector.table --lamp=1
 try run selector.netlist 3 --l
 try build single.table --la

@@ -59,30 +59,24 @@ same "the version" version said
 sed -n '/^```c$/,/^```$/p' "$root/README.md" | sed '/^```/d' >example
 same "README's example is tests/example.c" "$root/tests/example.c" example
 
-cp "$selector.table" .
+cp "$selector.table" "$selector.netlist" "$root/examples/spare.table" .
 echo 'hex:0100010304002d0000030005000002000500000300040000020004010008000900000c000700000c000601000d000a01000e000b0500040010000f' >theirs.netlist
-sed -n '/^    \$ pilgodur compare/,/^$/p' "$root/README.md" | sed '1d; $d; s/^    //' >compared
-"$bench" compare selector.table theirs.netlist >said
-same "README's example of compare" said compared
-sed -n '/^    \$ pilgodur list/,/^$/p' "$root/README.md" | sed '1d; $d; s/^    //' >listing
-"$bench" list selector.table >said
-same "README's example of list" said listing
-
-# two_commands WHAT BEGINNING: what is shown under README's two commands, of which the first begins like this, is what the second says
-# after the first.
-two_commands() {
-    sed -n "/^    \\$ pilgodur $2/,/^\$/p" "$root/README.md" | sed 's/^    //' >shown
-    sed '1,2d; $d' shown >page
-    sed -n 's/^\$ pilgodur //p' shown >commands
+# session BEGINNING: README's block whose first command begins like this shows what its commands say.
+session() {
+    sed -n "/^    \\$ pilgodur $1/,/^\$/p" "$root/README.md" | sed '$d; s/^    //' >page
+    [ -s page ] || complain "README has no example of $1"
+    sed -n 's/^\$ pilgodur //p' page >commands
     while read -r command; do
-        eval "\"\$bench\" $command" >said
-    done <commands
-    [ "$(wc -l <commands)" -eq 2 ] || complain "README's example of $1 has other commands"
+        echo "\$ pilgodur $command"
+        eval "\"\$bench\" $command"
+    done <commands >said
     same "README's example of $1" said page
 }
-cp "$root/examples/spare.table" .
-two_commands 'the lamp' 'build --lamp'
-two_commands 'notes' 'build selector.table --note'
+session 'compare'
+session 'list'
+session 'build --lamp'
+session 'build selector.table --note'
+session 'probe'
 
 sed -n '/^    \$ cat both.drawing/,/^    \$ pilgodur draw/p' "$root/README.md" | sed '1d; $d; s/^    //' >both.drawing
 sed -n '/^    \$ pilgodur draw both.drawing/,/^$/p' "$root/README.md" | sed '1d; $d; s/^    //' >drawn
@@ -136,6 +130,21 @@ same_gates 'The selector'
 section 'The selector' | sed '1,/^Its sheet/d' | sed -n 's/^    //p' >page
 "$bench" list "hex:$(cat table)" >said
 same "the selector's sheet in docs/RULES.md" said page
+
+# The holds on the selector: each row is what the program says of that hold, with the values of the gates' lines.
+section 'Stuck lines' | sed -n 's/^| `\([0-9a-f ]*\)` | \(.*\) |$/\1 | \2/p' >page
+sed 's/ |.*//' page | while read -r high low byte; do
+    line=$((256 * 0x$high + 0x$low)) site=$((0x$byte / 2)) value=$((0x$byte % 2)) pin='' of=''
+    [ $site -eq 0 ] || pin=.$site of=$([ $site -eq 1 ] && echo 'first pin of ' || echo 'second pin of ')
+    "$bench" probe selector.table "$line$pin=$value" --lines | awk -v hold="$high $low $byte | ${of}line $line at $value" '
+        / is hidden: / { input = output = 0; way = 2 }
+        / shows at input / { input = $0; sub(/.* input /, "", input) }
+        /^output / { output = $2; way = substr($3, 1, 1) }
+        $1 >= 8 && $2 ~ /^[01]$/ { values = values " " $2 }
+        END { print hold " | " input + 0 " | " output + 0 " | " way " |" values }'
+done >said
+same "what docs/RULES.md says of holds on the selector" said page
+[ "$(wc -l <page)" -eq 8 ] || complain "docs/RULES.md has other holds on the selector"
 
 # The selector's table with a note is answered like the table without it; what the page says of other bytes in the note.
 section 'Notes' | bytes >noted

@@ -1,30 +1,42 @@
-/* Builds the selector's netlist and probes one of its lines. */
+/* Builds the selector's netlist, and probes one of its lines and one of its pins. */
 #include <stdio.h>
 
 #include <pilgodur.h>
 
+/* Three contacts, one output: contact 2 while contact 1 is open, else contact 0. */
+static const uint8_t table[] = {1, 0, 1, 3, 2, 0, 1, 0, 3, 0, 2, 0, 1, 3, 0, 4, 0, 1, 0, 2, 3, 0, 6, 0, 1, 0, 0, 1, 1};
+
+static int refused(uint32_t refusal)
+{
+    printf("refused: %u\n", (unsigned)refusal);
+    return 1;
+}
+
+/* Says where a hold shows. The values of the lines there follow the netlist file, which has this length. */
+static int probe(const char *held, const uint8_t hold[3], uint32_t length)
+{
+    static uint8_t buffer[PILGODUR_FILE_MAX + PILGODUR_LINES_MAX];
+    pilgodur_probed probed = pilgodur_probe(table, sizeof table, hold, 3, buffer, sizeof buffer);
+    if (probed.refusal != PILGODUR_REFUSAL_NONE)
+        return refused(probed.refusal);
+    if (probed.way == PILGODUR_WAY_HIDDEN)
+        printf("%s is hidden: no input shows it\n", held);
+    else
+        printf("%s shows at input %u: output %u is %s\n", held, (unsigned)probed.input, (unsigned)probed.output,
+               probed.way == PILGODUR_WAY_BOTH_LOW ? "00, both low" : "11, both high");
+    printf("at input %u line 16 is then %u\n", (unsigned)probed.input, buffer[length + 16]);
+    return 0;
+}
+
 int main(void)
 {
-    /* Three contacts, one output: contact 2 while contact 1 is open, else contact 0. */
-    static const uint8_t table[] = {1, 0, 1, 3, 2, 0, 1, 0, 3, 0, 2, 0, 1, 3, 0, 4, 0, 1, 0, 2, 3, 0, 6, 0, 1, 0, 0, 1, 1};
-    static const uint8_t hold[] = {0, 10, 0}; /* line 10 held at 0 */
+    static const uint8_t line[] = {0, 10, 0}; /* line 10 held at 0 */
+    static const uint8_t pin[] = {0, 8, 3};   /* the first pin of line 8's gate held at 1 */
     static uint8_t netlist[PILGODUR_FILE_MAX];
-    static uint8_t buffer[PILGODUR_FILE_MAX + PILGODUR_LINES_MAX];
 
     pilgodur_built built = pilgodur_build(table, sizeof table, netlist, sizeof netlist);
-    if (built.refusal != PILGODUR_REFUSAL_NONE) {
-        printf("refused: %u\n", (unsigned)built.refusal);
-        return 1;
-    }
+    if (built.refusal != PILGODUR_REFUSAL_NONE)
+        return refused(built.refusal);
     printf("the netlist file has %u bytes\n", (unsigned)built.length);
-
-    pilgodur_probed probed = pilgodur_probe(table, sizeof table, hold, sizeof hold, buffer, sizeof buffer);
-    if (probed.refusal != PILGODUR_REFUSAL_NONE) {
-        printf("refused: %u\n", (unsigned)probed.refusal);
-        return 1;
-    }
-    printf("line 10 held at 0 shows at input %u: output %u is %s\n", (unsigned)probed.input, (unsigned)probed.output,
-           probed.way == PILGODUR_WAY_BOTH_LOW ? "00, both low" : "11, both high");
-    printf("line 16 is then %u\n", buffer[built.length + 16]);
-    return 0;
+    return probe("line 10 held at 0", line, built.length) || probe("the first pin of line 8 held at 1", pin, built.length);
 }
