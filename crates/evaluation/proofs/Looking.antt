@@ -20,10 +20,10 @@ use Rattle.evaluation.specs.Inner.Walk.{siteRank, rankAt, IsNext, Sorted
 use Rattle.evaluation.specs.declared.ranks.Looked.{Looked}
 
 -- Where a hold is a line's or a pin's, its rank tells its line and site.
-pub rank-line : (h : Hold) → h .value ≤ 1 → rankOf h ≡ h .line
+rank-line : (h : Hold) → h .value ≤ 1 → rankOf h ≡ h .line
 rank-line h l = ap (λ (b : Bool). cond b (h .line) (65536 + 2 * h .line + siteOf h)) (le-leb (h .value) 1 l)
 
-pub rank-pin : (h : Hold) → 1 < h .value → rankOf h ≡ 65536 + 2 * h .line + siteOf h
+rank-pin : (h : Hold) → 1 < h .value → rankOf h ≡ 65536 + 2 * h .line + siteOf h
 rank-pin h l = ap (λ (b : Bool). cond b (h .line) (65536 + 2 * h .line + siteOf h)) (lt-leb (h .value) 1 l)
 
 rank-tells : (h : Hold) (line site : ℕ) → h .value ≤ 5 → h .line < 65536 → line < 65536 → site ≤ 2 → rankOf h ≡ siteRank line site →
@@ -96,7 +96,7 @@ sorted first lines holds few ok =
         (λ m. let a = rising i j (omega arith) (omega arith) in let b = step j h in omega arith) (eq-or-lt-of-le l)
 
 module _ (holds : List ℕ) (ok : Sorted holds) where
-  pub rank-here : (i : ℕ) → i < length holds / 3 → rankAt holds i ≡ rankOf (holdAt holds i)
+  rank-here : (i : ℕ) → i < length holds / 3 → rankAt holds i ≡ rankOf (holdAt holds i)
   rank-here i l = ap (λ (b : Bool). cond b (rankOf (holdAt holds i)) 262144) (lt-ltb i (length holds / 3) l)
 
   pub rank-past : (i : ℕ) → length holds / 3 ≤ i → rankAt holds i ≡ 262144

@@ -1,3 +1,4 @@
+pub mod Halves
 pub mod Within
 pub mod Found
 pub mod Sites

@@ -1,5 +1,5 @@
 -- Lines worked out in batches, one after the other: at each bit they obey the run rule.
-use Prim.Native.Nat.{ℕ, _+_, _*_, _≤_, _<_, min, max}
+use Prim.Native.Nat.{ℕ, zero, suc, _+_, _*_, _≤_, _<_, min, max}
 use native.Mathlib.Numerals.{add-one}
 use native.Mathlib.Omega.{arith}
 use mathlib.Core.Path.{_≡_, refl, sym, ap, ap₂, _∙_}
@@ -23,12 +23,17 @@ use Rattle.search.proofs.Sites.{taken, held-once, sourced-gate}
 use Rattle.bits.specs.Inner.Bits.{bitOf, bitsOf}
 use Rattle.bits.proofs.Bits.{ones, bit-zero, bit-ones, bits-at, bit-and, bit-or, bit-flip}
 
-pub made-bit : (k kind a b : ℕ) → bitOf k (gateBatch kind a b) ≡ gateOf kind (bitOf k a) (bitOf k b)
-made-bit k kind a b = go (eqb kind 0)
+pub made-bit : (k word kind a b : ℕ) → kind ≤ 1 → bitOf k word ≡ kind →
+    bitOf k (gateBatch word a b) ≡ gateOf kind (bitOf k a) (bitOf k b)
+made-bit k word kind a b l e =
+    bit-or k (bitAnd a b) (bitAnd (bitOr a b) word)
+    ∙ ap₂ max (bit-and k a b) (bit-and k (bitOr a b) word ∙ ap₂ min (bit-or k a b) e)
+    ∙ two-of-three kind (bitOf k a) (bitOf k b) l (omega arith) (omega arith)
   where
-    go : (q : Bool) → bitOf k (cond q (bitAnd a b) (bitOr a b)) ≡ cond q (min (bitOf k a) (bitOf k b)) (max (bitOf k a) (bitOf k b))
-    go true = bit-and k a b
-    go false = bit-or k a b
+    two-of-three : (kind a b : ℕ) → kind ≤ 1 → a ≤ 1 → b ≤ 1 → max (min a b) (min (max a b) kind) ≡ gateOf kind a b
+    two-of-three zero a b l m n = omega arith
+    two-of-three (suc zero) a b l m n = omega arith
+    two-of-three (suc (suc kind)) a b l m n = absurd (omega arith)
 
 module _ (k : ℕ) (h : Hold) where
   -- What a rail shows.

@@ -8,7 +8,7 @@ ghost use Rattle.diagram.specs.Diagram.{bit};
 ghost use Rattle.netlist.specs.Netlist.{pairsOf, netOf};
 ghost use Rattle.wiring.specs.Questions.{arePairs};
 ghost use Rattle.faults.specs.Betrayal.{someNoCode, lowestNoCode};
-ghost use Rattle.batches.specs.Inner.Batches.{holdOf, SearchReady, BuffersFit};
+ghost use Rattle.batches.specs.Inner.Batches.{halfOf, holdOf, SearchReady, BuffersFit};
 ghost use Rattle.bits.specs.Inner.Bits.{bitOf, bitsOf};
 ghost use Rattle.search.specs.Inner.Found.{foundIn};
 
@@ -18,17 +18,17 @@ pub enum Found {
     Nowhere,
 }
 
-// The inputs at which some output's true and false line agree.
-fn agreeing(pairs: &[u8], batches: &[u64]) -> u64
-    requires { ⌜ arePairs (length (now batches)) (now pairs) ≡ true ⌝ }
+// The inputs of a half at which some output's true and false line agree.
+fn agreeing(pairs: &[u8], half: usize, batches: &[u64]) -> u64
+    requires { ⌜ (half ≤ 1) × (arePairs (length (now batches) / 2) (now pairs) ≡ true) ⌝ }
     ensures { λ r. ⌜ ((k : ℕ) → k < 64 →
-        bitOf k r ≡ bit (someNoCode (pairsOf (now (pairs .entry))) (bitsOf k (now (batches .entry))))) ⌝ }
+        bitOf k r ≡ bit (someNoCode (pairsOf (now (pairs .entry))) (bitsOf k (halfOf half (now (batches .entry)))))) ⌝ }
 {
     let mut mask = 0;
     for j in 0..pairs.len() / 4 {
         let at = 4 * j;
-        let on = batches::batch_at(pairs, at, batches);
-        let off = batches::batch_at(pairs, at + 2, batches);
+        let on = batches::batch_at(pairs, at, half, batches);
+        let off = batches::batch_at(pairs, at + 2, half, batches);
         mask = mask | ((on ^ off) ^ bits::ONES);
     }
     mask
@@ -43,26 +43,25 @@ fn search_in(
     line: usize,
     value: u8,
     sources: &mut [u16],
-    low: &mut [u64],
-    high: &mut [u64],
+    batches: &mut [u64],
 ) -> Found
     requires { ⌜ SearchReady n (now gates) (now pairs) ⌝ }
-    requires { ⌜ BuffersFit n (now gates) (length (now sources)) (length (now low)) (length (now high)) ⌝ }
+    requires { ⌜ BuffersFit n (now gates) (length (now sources)) (length (now batches)) ⌝ }
     ensures { λ r. ⌜ r ≡ foundIn (netOf n (now (gates .entry)) (now (pairs .entry))) (holdOf line value) ⌝ }
 {
     passes::take_sources(gates, 2 + 2 * n, line, value, sources);
-    let lines = 2 + 2 * n + gates.len() / 5;
+    let words = 2 * (2 + 2 * n + gates.len() / 5);
     let end = 1usize << n;
     let mut base = 0;
     while base < end {
-        passes::work_batches(gates, sources, n, base, line, value, low, high);
-        let mask = agreeing(pairs, &low[..lines]);
+        passes::work_batches(gates, sources, n, base, line, value, batches);
+        let mask = agreeing(pairs, 0, &batches[..words]);
         if mask != 0 {
             let input = base as u32 + bits::lowest_bit(mask);
             return Found::At(input);
         }
         let next = base + 64;
-        let mask = agreeing(pairs, &high[..lines]);
+        let mask = agreeing(pairs, 1, &batches[..words]);
         if mask != 0 {
             let input = next as u32 + bits::lowest_bit(mask);
             return Found::At(input);
@@ -79,20 +78,17 @@ pub fn search(gates: &[u8], pairs: &[u8], n: usize, line: usize, value: u8) -> F
 {
     if gates.len() <= 1150 {
         let mut sources = [0u16; 460];
-        let mut lo = [0u64; 256];
-        let mut hi = [0u64; 256];
-        return search_in(gates, pairs, n, line, value, &mut sources, &mut lo, &mut hi);
+        let mut batches = [0u64; 512];
+        return search_in(gates, pairs, n, line, value, &mut sources, &mut batches);
     }
     if gates.len() <= 11390 {
         let mut sources = [0u16; 4556];
-        let mut lo = [0u64; 2304];
-        let mut hi = [0u64; 2304];
-        return search_in(gates, pairs, n, line, value, &mut sources, &mut lo, &mut hi);
+        let mut batches = [0u64; 4608];
+        return search_in(gates, pairs, n, line, value, &mut sources, &mut batches);
     }
     let mut sources = [0u16; 21120];
-    let mut lo = [0u64; 10586];
-    let mut hi = [0u64; 10586];
-    search_in(gates, pairs, n, line, value, &mut sources, &mut lo, &mut hi)
+    let mut batches = [0u64; 21172];
+    search_in(gates, pairs, n, line, value, &mut sources, &mut batches)
 }
 
 // The lowest output whose pair shows no code, which some output's does.

@@ -1,4 +1,4 @@
--- Batches of 64 code inputs: bit k of a line's batch is the line's value at input base + k.
+-- Batches of 64 code inputs: bit k of a line's batch is the line's value at input base + k. Two batches of a line lie side by side.
 use Prim.Native.Nat.{ℕ, _+_, _*_, _/_, _≤_, _<_}
 use mathlib.Core.Path.{_≡_}
 use mathlib.Core.Bool.{true, _||_, cond}
@@ -6,17 +6,22 @@ use mathlib.Core.List.{List, [], _∷_, map}
 use lib.Bits.{bitAnd, bitOr}
 use lib.Dec.{eqb}
 use lib.ListN.{length, getD, take}
+use Rattle.fields.specs.Bounded.{listed}
 use Rattle.netlist.specs.declared.Hold.{Hold}
 use Rattle.diagram.specs.Diagram.{inputOf}
-use Rattle.netlist.specs.Netlist.{gateAt, gateLine, gatesOf, siteOf, levelOf}
+use Rattle.netlist.specs.Netlist.{gateAt, gateLine, gatesOf, siteOf}
 use Rattle.simulation.specs.Run.{Rule, rail, gate, held, holding, workOut}
 use Rattle.rules.specs.Code.{codeRails}
 use Rattle.wiring.specs.Questions.{areGates, arePairs}
 use Rattle.bits.specs.Inner.Bits.{bitOf, bitsOf}
 
--- What a gate makes of two batches.
+-- The first batches of the lines, half 0, or the second, half 1.
+unfoldable pub halfOf : ℕ → List ℕ → List ℕ
+halfOf b ws = listed (λ x. getD ws (2 * x + b) 0) (length ws / 2) 0
+
+-- What a gate makes of its kind's batch, which is 0 or 1 at every bit, and those of its sources.
 abbrev pub gateBatch : ℕ → ℕ → ℕ → ℕ
-gateBatch kind a b = cond (eqb kind 0) (bitAnd a b) (bitOr a b)
+gateBatch kind a b = bitOr (bitAnd a b) (bitAnd (bitOr a b) kind)
 
 -- What a line shows: the held line its held batch.
 abbrev pub heldBatch : ℕ → ℕ → ℕ → ℕ → ℕ
@@ -55,19 +60,18 @@ pub record SourcesTaken (first : ℕ) (h : Hold) (count : ℕ) (gates sources : 
   pub left : (g : ℕ) → g < count → getD sources (2 * g) 0 ≡ sourceOf h (first + g) 1 (gateAt gates g .left)
   pub right : (g : ℕ) → g < count → getD sources (2 * g + 1) 0 ≡ sourceOf h (first + g) 2 (gateAt gates g .right)
 
--- What the gates' batches are worked out from: gates whose sources are below their own lines, room for every line, and the line of
--- the held value's constant.
+-- What the gates' batches are worked out from: gates whose sources are below their own lines, room for every line, and the constants.
 pub record GatesReady (first : ℕ) (h : Hold) (gates sources batches : List ℕ) : Type 0 where
   pub after : 2 ≤ first
   pub fits : first + length gates / 5 ≤ length batches
   pub wired : areGates first gates ≡ true
   pub sourced : SourcesTaken first h (length gates / 5) gates sources
-  pub constant : (k : ℕ) → k < 64 → bitOf k (getD batches (levelOf h) 0) ≡ levelOf h
+  pub constant : (k v : ℕ) → k < 64 → v ≤ 1 → bitOf k (getD batches v 0) ≡ v
 
 -- What the lines' batches are worked out from.
 pub record BatchesReady (n : ℕ) (h : Hold) (gates sources : List ℕ) (room : ℕ) : Type 0 where
   pub few : n ≤ 12
-  pub fits : gateLine n + length gates / 5 ≤ room
+  pub fits : 2 * (gateLine n + length gates / 5) ≤ room
   pub wired : areGates (gateLine n) gates ≡ true
   pub sourced : SourcesTaken (gateLine n) h (length gates / 5) gates sources
 
@@ -79,7 +83,6 @@ pub record SearchReady (n : ℕ) (gates pairs : List ℕ) : Type 0 where
   pub paired : arePairs (gateLine n + length gates / 5) pairs ≡ true
 
 -- Room for the gates' sources and for every line's batches.
-pub record BuffersFit (n : ℕ) (gates : List ℕ) (sources low high : ℕ) : Type 0 where
+pub record BuffersFit (n : ℕ) (gates : List ℕ) (sources batches : ℕ) : Type 0 where
   pub sources-fit : 2 * (length gates / 5) ≤ sources
-  pub low-fits : gateLine n + length gates / 5 ≤ low
-  pub high-fits : gateLine n + length gates / 5 ≤ high
+  pub batches-fit : 2 * (gateLine n + length gates / 5) ≤ batches
