@@ -61,8 +61,8 @@ same "README's example is tests/example.c" "$root/tests/example.c" example
 
 cp "$selector.table" "$selector.netlist" "$root/examples/spare.table" .
 echo 'hex:0100010304002d0000030005000002000500000300040000020004010008000900000c000700000c000601000d000a01000e000b0500040010000f' >theirs.netlist
-# session BEGINNING: README's block whose first command begins like this shows what its commands say.
-session() {
+# shown BEGINNING: README's block whose first command begins like this shows what its commands say.
+shown() {
     sed -n "/^    \\$ pilgodur $1/,/^\$/p" "$root/README.md" | sed '$d; s/^    //' >page
     [ -s page ] || complain "README has no example of $1"
     sed -n 's/^\$ pilgodur //p' page >commands
@@ -72,11 +72,11 @@ session() {
     done <commands >said
     same "README's example of $1" said page
 }
-session 'compare'
-session 'list'
-session 'build --lamp'
-session 'build selector.table --note'
-session 'probe'
+shown 'compare'
+shown 'list'
+shown 'build --lamp'
+shown 'build selector.table --note'
+shown 'probe'
 
 sed -n '/^    \$ cat both.drawing/,/^    \$ pilgodur draw/p' "$root/README.md" | sed '1d; $d; s/^    //' >both.drawing
 sed -n '/^    \$ pilgodur draw both.drawing/,/^$/p' "$root/README.md" | sed '1d; $d; s/^    //' >drawn
