@@ -1,4 +1,4 @@
--- Questions 13 and 14, about what a netlist is run with.
+-- Questions 13, 14 and 21, about what a netlist is run with and from where.
 use Prim.Native.Nat.{ℕ, zero, suc, _+_, _*_, _/_, _%_}
 use mathlib.Core.Bool.{Bool, _&&_, _||_, cond}
 use mathlib.Core.List.{List}
@@ -11,6 +11,8 @@ use Rattle.drive.specs.declared.Rails.{Rails}
 use Rattle.drive.specs.declared.Rails.the-variants.{Driven, Undriven}
 use Rattle.drive.specs.declared.Holds.{Holds}
 use Rattle.drive.specs.declared.Holds.the-variants.{Ordered, Disordered}
+use Rattle.drive.specs.declared.Place.{Place}
+use Rattle.drive.specs.declared.Place.the-variants.{Within, Outside}
 
 abbrev pub isBit : List ℕ → ℕ → Bool
 isBit bytes i = leb (getD bytes i 0) 1
@@ -52,3 +54,11 @@ orderOf first lines holds = cond (areOrdered first lines holds) Ordered Disorder
 abbrev pub holdsNumber : Holds → ℕ
 holdsNumber Ordered = 0
 holdsNumber Disordered = 14
+
+-- 21. Is a step's place a line from 2 up that is in the netlist, or the line after the last? No: 21.
+abbrev pub placeOf : ℕ → ℕ → Place
+placeOf lines place = cond (leb 2 place && leb place lines) Within Outside
+
+abbrev pub placeNumber : Place → ℕ
+placeNumber Within = 0
+placeNumber Outside = 21

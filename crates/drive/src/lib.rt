@@ -1,8 +1,8 @@
-// Questions 13 and 14, about what a netlist is run with.
+// Questions 13, 14 and 21, about what a netlist is run with and from where.
 use netlist::Hold;
 ghost use mathlib.Core.Path.{_≡_};
 ghost use Prim.Native.Nat.{_≤_};
-ghost use Rattle.drive.specs.Questions.{railsOf, rankOf, isHold, orderOf};
+ghost use Rattle.drive.specs.Questions.{railsOf, rankOf, isHold, orderOf, placeOf};
 
 // Question 13's answer.
 pub enum Rails {
@@ -14,6 +14,12 @@ pub enum Rails {
 pub enum Holds {
     Ordered,
     Disordered,
+}
+
+// Question 21's answer.
+pub enum Place {
+    Within,
+    Outside,
 }
 
 // Question 13: are there 2n rail bytes, each 0 or 1?
@@ -80,4 +86,17 @@ pub fn ask_holds(first: usize, lines: usize, holds: &[u8]) -> Holds
         last = rank(hold);
     }
     Holds::Ordered
+}
+
+// Question 21: is a step's place a line from 2 up that is in the netlist, or the line after the last?
+pub fn ask_place(lines: usize, place: usize) -> Place
+    ensures { λ r. ⌜ r ≡ placeOf lines place ⌝ }
+{
+    if place < 2 {
+        return Place::Outside;
+    }
+    if lines < place {
+        return Place::Outside;
+    }
+    Place::Within
 }

@@ -2,7 +2,7 @@
 use native.Mathlib.Omega.{arith}
 use Prim.Native.Nat.{ℕ, zero, suc, _+_, _<_}
 use mathlib.Core.List.{List, [], _∷_, _++_}
-use lib.ListN.{length, getD}
+use lib.ListN.{length, getD, take, drop}
 use Rattle.fields.specs.Bounded.{listed}
 
 abbrev pub Every : {A : Type 0} → (A → Type 0) → List A → Type 0
@@ -27,6 +27,16 @@ module _ {A : Type 0} (P : A → Type 0) where
   pub every-append : (xs ys : List A) → Every P xs → Every P ys → Every P (xs ++ ys)
   every-append [] ys p q = q
   every-append (x ∷ xs) ys p q = (p .0, every-append xs ys (p .1) q)
+
+  pub every-take : (k : ℕ) (xs : List A) → Every P xs → Every P (take k xs)
+  every-take zero xs p = tt
+  every-take (suc k) [] p = tt
+  every-take (suc k) (x ∷ xs) p = (p .0, every-take k xs (p .1))
+
+  pub every-drop : (k : ℕ) (xs : List A) → Every P xs → Every P (drop k xs)
+  every-drop zero xs p = p
+  every-drop (suc k) [] p = tt
+  every-drop (suc k) (x ∷ xs) p = every-drop k xs (p .1)
 
   pub every-weaken : (Q : A → Type 0) → ((x : A) → P x → Q x) → (xs : List A) → Every P xs → Every Q xs
   every-weaken Q f [] p = tt

@@ -74,12 +74,15 @@ netWith n gates pairs lamp = record { contacts = n; gates = gates; pairs = pairs
 abbrev pub netOf : ℕ → List ℕ → List ℕ → Netlist
 netOf n gates pairs = netWith n (gatesOf gates) (pairsOf pairs) []
 
--- The bytes of a gate, and of an output or a lamp.
+-- The bytes of a gate, of an output or a lamp, and of a hold.
 abbrev pub gateBytes : Gate → List ℕ
 gateBytes g = g .kind ∷ g .left / 256 ∷ g .left % 256 ∷ g .right / 256 ∷ g .right % 256 ∷ []
 
 abbrev pub pairBytes : Pair → List ℕ
 pairBytes p = p .on / 256 ∷ p .on % 256 ∷ p .off / 256 ∷ p .off % 256 ∷ []
+
+abbrev pub holdBytes : Hold → List ℕ
+holdBytes h = h .line / 256 ∷ h .line % 256 ∷ h .value ∷ []
 
 -- The field of a lamp's bytes; none without a lamp.
 abbrev pub lampField : List ℕ → List Item

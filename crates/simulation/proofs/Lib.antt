@@ -1,9 +1,11 @@
 pub mod Applied
 pub mod Runs
 pub mod Obeys
+pub mod Reading
 pub mod Related
 pub mod Monotone
 pub mod Answers
 pub mod Shown
 pub mod Writes
 pub mod Worked
+pub mod Whole
