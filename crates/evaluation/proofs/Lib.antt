@@ -1,3 +1,4 @@
 pub mod Looking
 pub mod Putting
+pub mod Reading
 pub mod Walking

@@ -13,6 +13,7 @@ use Rattle.netlist.specs.Netlist.{gateAt, holdAt, holdsOf}
 use Rattle.drive.specs.Questions.{rankOf}
 use Rattle.drive.proofs.Tests.{holds-at}
 use Rattle.simulation.specs.Run.{gateOf, held}
+use Rattle.simulation.specs.Service.{readBack}
 use Rattle.evaluation.specs.declared.ranks.Looked.{Looked}
 use Rattle.evaluation.specs.declared.ranks.Next.{Next}
 use Rattle.evaluation.specs.Inner.Walk.{IsNext, Sorted, Awaits, Looks, Walks, PinsFree, workedOver, Ready}
@@ -26,37 +27,23 @@ module _ (gates rails holds lines : List ℕ) (ok : Ready gates rails holds (len
   pub in-order : Sorted holds
   in-order = sorted first (first + length gates / 5) holds (omega (arith, ok .few, ok .many)) (ok .sorted)
 
-  -- The first hold is awaited at line 2.
-  pub starts : (n : Next) → n .at ≡ 0 → IsNext holds n → Awaits holds 2 n
-  starts n z is =
-      record {
-        is = is;
-        ahead = rw z (record { behind = λ k l. absurd (omega arith); from = λ k _ h. least k h });
-      }
-    where
-      least : (k : ℕ) → k < length holds / 3 → 2 ≤ rankOf (holdAt holds k)
-      least zero h = holds-at first (first + length gates / 5) holds (ok .sorted) 0 h .after
-      least (suc k) h =
-          let low = holds-at first (first + length gates / 5) holds (ok .sorted) 0 (omega arith) .after in
-          omega (arith, in-order .rising 0 (suc k) (omega arith) h)
-
   -- A gate with its line's hold, and with its pins' holds too.
   module _ (line g : ℕ) (m : Gate) (at : line ≡ first + g) (within : g < length gates / 5) (q : m ≡ gateAt gates g) where
     small : line < 65536
     small = omega (arith, ok .few, ok .many)
 
     pub gate-held : (a b made v : ℕ) → a ≡ held (holdsOf holds) line 1 (getD lines (m .left) 0) →
-        b ≡ held (holdsOf holds) line 2 (getD lines (m .right) 0) → made ≡ gateOf (m .kind) a b → v ≡ held (holdsOf holds) line 0 made →
+        b ≡ held (holdsOf holds) line 2 (getD lines (m .right) 0) → made ≡ gateOf (m .kind) (readBack a) (readBack b) → v ≡ held (holdsOf holds) line 0 made →
         set lines line v ≡ workedOver (holdsOf holds) rails gates line (line + 1) lines
     gate-held a b made v ea eb e s =
         let room = ok .fits in
         let after : 2 ≤ line = omega arith in
         gate-put (holdsOf holds) rails gates line after lines line v (omega arith) (omega arith)
         (none-put (holdsOf holds) rails gates line after lines (omega arith)) g at within (ok .wired) q
-        (s ∙ ap (held (holdsOf holds) line 0) (e ∙ ap₂ (gateOf (m .kind)) ea eb))
+        (s ∙ ap (held (holdsOf holds) line 0) (e ∙ ap₂ (λ (a b : ℕ). gateOf (m .kind) (readBack a) (readBack b)) ea eb))
 
     pub gate-pinned : (left right shown : Looked) (made : ℕ) → Looks holds (65537 + 2 * line) (getD lines (m .left) 0) left →
-        Looks holds (65538 + 2 * line) (getD lines (m .right) 0) right → made ≡ gateOf (m .kind) (left .value) (right .value) →
+        Looks holds (65538 + 2 * line) (getD lines (m .right) 0) right → made ≡ gateOf (m .kind) (readBack (left .value)) (readBack (right .value)) →
         Looks holds line made shown →
         Walks holds (line + 1) (record { line = shown .next; pin = right .next })
         × (set lines line (shown .value) ≡ workedOver (holdsOf holds) rails gates line (line + 1) lines)

@@ -2,4 +2,5 @@
 mod lines;
 mod ranks;
 
+pub use lines::read_back;
 pub use lines::work_out;

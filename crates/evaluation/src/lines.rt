@@ -2,13 +2,13 @@
 use crate::ranks;
 use crate::ranks::Next;
 ghost use mathlib.Core.Path.{_≡_};
-ghost use mathlib.Core.List.{[], _∷_};
+ghost use mathlib.Core.List.{[]};
 ghost use Prim.Native.Nat.{_+_, _*_, _/_, _≤_, _<_, min};
 ghost use lib.ListN.{length};
-ghost use Rattle.files.specs.Room.{over};
-ghost use Rattle.netlist.specs.Netlist.{holdsOf, gatesOf};
-ghost use Rattle.simulation.specs.Run.{gateOf, holding, driversOf, workOut};
-ghost use Rattle.evaluation.specs.Inner.Walk.{Sorted, Awaits, Walks, PinsFree, workedOver, Ready};
+ghost use Rattle.netlist.specs.Netlist.{holdsOf};
+ghost use Rattle.simulation.specs.Run.{gateOf};
+ghost use Rattle.simulation.specs.Service.{readBack};
+ghost use Rattle.evaluation.specs.Inner.Walk.{Sorted, Awaits, Walks, PinsFree, workedOver, steppedOver, Ready};
 
 // The next hold of a line, and the next of a pin.
 struct Cursor {
@@ -16,27 +16,41 @@ struct Cursor {
     pin: Next,
 }
 
-// What a gate makes of two values: AND (kind 0) the lesser, OR the greater.
+// How a line's byte is read: one that is neither 0 nor 1 as 1.
+pub fn read_back(byte: u8) -> u8
+    ensures { λ r. ⌜ r ≡ readBack byte ⌝ }
+{
+    if byte == 0 { 0 } else { 1 }
+}
+
+// What a gate makes of two bytes: AND (kind 0) the lesser, OR the greater.
 fn make(kind: u8, a: u8, b: u8) -> u8
-    ensures { λ r. ⌜ r ≡ gateOf kind a b ⌝ }
+    ensures { λ r. ⌜ r ≡ gateOf kind (readBack a) (readBack b) ⌝ }
 {
     if kind == 0 {
-        if a < b { a } else { b }
+        if a < b { read_back(a) } else { read_back(b) }
     } else {
-        if a < b { b } else { a }
+        if a < b { read_back(b) } else { read_back(a) }
     }
 }
 
-// Works out the rails' lines, each with its hold, from line 2 up.
-fn put_rails(rails: &[u8], holds: &[u8], next: Next, lines: &mut [u8]) -> Next
-    requires { ⌜ Sorted (now holds) × Awaits (now holds) 2 next ⌝ }
-    requires { ⌜ (length (now rails) ≤ 24) × (2 + length (now rails) ≤ length (now lines)) ⌝ }
-    ensures { λ r. ⌜ Awaits (now (holds .entry)) (2 + length (now (rails .entry))) r ⌝ }
+// Works out rails' lines, from one to another, each with its hold.
+fn put_rails(
+    rails: &[u8],
+    holds: &[u8],
+    next: Next,
+    from: usize,
+    to: usize,
+    lines: &mut [u8],
+) -> Next
+    requires { ⌜ Sorted (now holds) × Awaits (now holds) from next ⌝ }
+    requires { ⌜ (2 ≤ from) × (from ≤ to) × (to ≤ 2 + length (now rails)) × (length (now rails) ≤ 24) × (to ≤ length (now lines)) ⌝ }
+    ensures { λ r. ⌜ Awaits (now (holds .entry)) to r ⌝ }
     ensures { λ _. ⌜ now (lines .exit)
-        ≡ workedOver (holdsOf (now (holds .entry))) (now (rails .entry)) [] 2 (2 + length (now (rails .entry))) (now (lines .entry)) ⌝ }
+        ≡ workedOver (holdsOf (now (holds .entry))) (now (rails .entry)) [] from to (now (lines .entry)) ⌝ }
 {
     let mut on_line = next;
-    for x in 2..2 + rails.len() {
+    for x in from..to {
         let rail = ranks::look(holds, on_line, x, rails[x - 2]);
         lines[x] = rail.value;
         on_line = rail.next;
@@ -121,26 +135,32 @@ fn lesser(x: usize, y: usize) -> usize
     if x < y { x } else { y }
 }
 
-// Works out all gates: those up to the next whose pin is held, then that one, and so on.
-fn put_all(gates: &[u8], rails: &[u8], holds: &[u8], next: Next, lines: &mut [u8])
-    requires { ⌜ Ready (now gates) (now rails) (now holds) (length (now lines)) × Awaits (now holds) (2 + length (now rails)) next ⌝ }
+// Works out gates from one line to another: those up to the next whose pin is held, then that one, and so on.
+fn put_all(
+    gates: &[u8],
+    rails: &[u8],
+    holds: &[u8],
+    next: Next,
+    from: usize,
+    to: usize,
+    lines: &mut [u8],
+)
+    requires { ⌜ Ready (now gates) (now rails) (now holds) (length (now lines)) × Awaits (now holds) from next ⌝ }
+    requires { ⌜ (2 + length (now rails) ≤ from) × (from ≤ to) × (to ≤ 2 + length (now rails) + length (now gates) / 5) ⌝ }
     ensures { λ _. ⌜ now (lines .exit)
-        ≡ workedOver (holdsOf (now (holds .entry))) (now (rails .entry)) (now (gates .entry)) (2 + length (now (rails .entry)))
-        (2 + length (now (rails .entry)) + length (now (gates .entry)) / 5) (now (lines .entry)) ⌝ }
+        ≡ workedOver (holdsOf (now (holds .entry))) (now (rails .entry)) (now (gates .entry)) from to (now (lines .entry)) ⌝ }
 {
-    let first = 2 + rails.len();
-    let count = first + gates.len() / 5;
     let mut cursor = Cursor {
         line: next,
-        pin: ranks::seek(holds, 65537 + 2 * first),
+        pin: ranks::seek(holds, 65537 + 2 * from),
     };
-    let mut at = first;
+    let mut at = from;
     loop {
         let on_line = cursor.line;
         let on_pin = cursor.pin;
-        let stop = lesser((on_pin.rank - 65537) / 2, count);
+        let stop = lesser((on_pin.rank - 65537) / 2, to);
         let reached = put_gates(gates, rails, holds, on_line, at, stop, lines);
-        if stop == count {
+        if stop == to {
             return;
         }
         cursor = put_pinned(
@@ -158,17 +178,24 @@ fn put_all(gates: &[u8], rails: &[u8], holds: &[u8], next: Next, lines: &mut [u8
     }
 }
 
-// Works out every line's value, from line 0 up: the constants, the rails, the gates.
-pub fn work_out(gates: &[u8], rails: &[u8], holds: &[u8], lines: &mut [u8])
+// Sets the constants, and works out the lines from one to another, rails like gates, from the lines before them as they are read.
+pub fn work_out(gates: &[u8], rails: &[u8], holds: &[u8], from: usize, to: usize, lines: &mut [u8])
     requires { ⌜ Ready (now gates) (now rails) (now holds) (length (now lines)) ⌝ }
+    requires { ⌜ (2 ≤ from) × (from ≤ to) × (to ≤ 2 + length (now rails) + length (now gates) / 5) ⌝ }
     ensures { λ _. ⌜ now (lines .exit)
-        ≡ over
-        (workOut (holding (holdsOf (now (holds .entry))))
-        (driversOf (now (rails .entry)) (gatesOf (now (gates .entry)))) (0 ∷ 1 ∷ []))
-        (now (lines .entry)) ⌝ }
+        ≡ steppedOver (holdsOf (now (holds .entry))) (now (rails .entry)) (now (gates .entry)) from to (now (lines .entry)) ⌝ }
 {
     lines[0] = 0;
     lines[1] = 1;
-    let next = put_rails(rails, holds, ranks::next_at(holds, 0), lines);
-    put_all(gates, rails, holds, next, lines);
+    let first = 2 + rails.len();
+    let next = ranks::seek(holds, from);
+    if first <= from {
+        put_all(gates, rails, holds, next, from, to, lines);
+        return;
+    }
+    let stop = lesser(first, to);
+    let next_gate = put_rails(rails, holds, next, from, stop, lines);
+    if stop < to {
+        put_all(gates, rails, holds, next_gate, stop, to, lines);
+    }
 }

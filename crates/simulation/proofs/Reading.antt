@@ -1,13 +1,15 @@
 -- Values are read back as they are; other bytes are read as the value 1.
+use borrow.Author.Tests.{ne-eqb}
+use native.Mathlib.Decide.{ℕ-discrete}
 use native.Mathlib.Nat.{mod-lt}
 use native.Mathlib.Omega.{arith}
-use Prim.Native.Nat.{ℕ, zero, suc, _*_, _<_, _≤_}
-use mathlib.Core.Path.{_≡_, refl, sym, ap, ap₂, _∙_}
+use Prim.Native.Nat.{ℕ, zero, suc, _<_, _≤_}
+use mathlib.Core.Path.{_≡_, refl, ap₂}
 use mathlib.Core.Bool.{Bool, true, false, cond}
 use mathlib.Core.List.{List, [], _∷_, _++_, map}
 use lib.Dec.{eqb}
-use lib.ListN.{length, getD, take, drop, take-append-drop}
-use Rattle.fields.proofs.Every.{Every, every-by, every-at, every-append, every-take, every-drop}
+use lib.ListN.{length, getD}
+use Rattle.fields.proofs.Every.{Every, every-at, every-append}
 use Rattle.netlist.specs.declared.Gate.{Gate}
 use Rattle.netlist.specs.declared.Hold.{Hold}
 use Rattle.netlist.specs.Netlist.{levelOf}
@@ -22,6 +24,14 @@ pub read-bit : (v : ℕ) → v ≤ 1 → readBack v ≡ v
 read-bit zero h = refl
 read-bit (suc zero) h = refl
 read-bit (suc (suc v)) h = absurd (omega arith)
+
+pub read-mono : (a b : ℕ) → a ≤ b → readBack a ≤ readBack b
+read-mono a b h = go (ℕ-discrete a 0) (ℕ-discrete b 0)
+  where
+    go : Dec (a ≡ 0) → Dec (b ≡ 0) → readBack a ≤ readBack b
+    go (yes p) _ = rw p (let low : 0 ≤ readBack b = omega arith in low)
+    go (no p) (yes q) = absurd (omega arith)
+    go (no p) (no q) = rw (ne-eqb a 0 p, ne-eqb b 0 q) (let same : 1 ≤ 1 = omega arith in same)
 
 pub read-bits : (vs : List ℕ) → Bits vs → map readBack vs ≡ vs
 read-bits [] h = refl
@@ -54,10 +64,13 @@ bit-drivers rails gates bits = every-append BitDriver (map rail rails) (map gate
     of-gates [] = tt
     of-gates (g ∷ gates) = (tt, of-gates gates)
 
+pub level-bit : (h : Hold) → levelOf h ≤ 1
+level-bit h = omega (arith, mod-lt (h .value) (let two : 0 < 2 = omega arith in two))
+
 module _ (holds : List Hold) where
   levels : (hs : List Hold) → AllHeld (λ v. v ≤ 1) hs
   levels [] = tt
-  levels (h ∷ hs) = (omega (arith, mod-lt (h .value) (let two : 0 < 2 = omega arith in two)), levels hs)
+  levels (h ∷ hs) = (level-bit h, levels hs)
 
   held-bit : (x s v : ℕ) → v ≤ 1 → held holds x s v ≤ 1
   held-bit = held-by (λ v. v ≤ 1) (λ v. v ≤ 1) (λ v e. e) holds (levels holds)

@@ -1,13 +1,13 @@
 -- What a buffer holds while lines are worked out into it, one after the other.
 use native.Mathlib.Omega.{arith}
-use Prim.Native.Nat.{ℕ, _+_, _-_, _≤_, _<_}
+use Prim.Native.Nat.{ℕ, _+_, _≤_, _<_}
 use mathlib.Core.Path.{_≡_, refl, sym, ap, _∙_}
 use mathlib.Core.List.{List, [], _∷_, _++_}
 use lib.ListN.{length, getD, take, set}
-use lib.Seq.{length-take-le, take-length}
+use lib.Seq.{length-take-le}
 use Rattle.simulation.specs.Run.{Driver, Rule, drive, workOut}
 use Rattle.files.specs.Room.{over}
-use Rattle.files.proofs.Buffers.{over-at, over-set, over-over}
+use Rattle.files.proofs.Buffers.{over-at, over-set}
 use Rattle.simulation.proofs.Runs.{length-run, run-more}
 
 -- The buffer after so many drivers from a line on.
@@ -32,18 +32,7 @@ module _ (r : Rule ℕ) (first : ℕ) (buffer : List ℕ) where
       ∙ ap (λ (us : List ℕ). over us buffer)
       (ap (λ (y : ℕ). w ++ (y ∷ [])) (e ∙ ap (λ (n : ℕ). r .shows n (drive r w d)) k) ∙ sym (run-more r ds d (take first buffer)))
 
-constants : (buffer : List ℕ) → 2 ≤ length buffer → set (set buffer 0 0) 1 1 ≡ over (0 ∷ 1 ∷ []) buffer
+pub constants : (buffer : List ℕ) → 2 ≤ length buffer → set (set buffer 0 0) 1 1 ≡ over (0 ∷ 1 ∷ []) buffer
 constants [] h = absurd (omega arith)
 constants (x ∷ []) h = absurd (omega arith)
 constants (x ∷ y ∷ l) h = refl
-
--- The constants written, then every line worked out.
-pub all-lines : (r : Rule ℕ) (ds : List (Driver ℕ)) (buffer : List ℕ) (count : ℕ) {ws : List ℕ} → count ≡ 2 + length ds →
-    count ≤ length buffer → (let us = set (set buffer 0 0) 1 1 in ws ≡ over (workOut r (take (count - 2) ds) (take 2 us)) us) →
-    ws ≡ over (workOut r ds (0 ∷ 1 ∷ [])) buffer
-all-lines r ds buffer count c room e =
-    let cs : List ℕ = 0 ∷ 1 ∷ [] in
-    let all : count - 2 ≡ length ds = omega arith in
-    e ∙ ap (λ (b : List ℕ). over (workOut r (take (count - 2) ds) (take 2 b)) b) (constants buffer (omega arith))
-    ∙ ap (λ (es : List (Driver ℕ)). over (workOut r es cs) (over cs buffer)) (ap (λ (k : ℕ). take k ds) all ∙ take-length ds)
-    ∙ over-over (workOut r ds cs) buffer cs (omega (arith, length-run r ds cs))

@@ -2,15 +2,16 @@
 use Prim.Native.Nat.{ℕ, _+_, _*_, _-_, _/_, _≤_, _<_}
 use mathlib.Core.Path.{_≡_}
 use mathlib.Core.Bool.{true, cond}
-use mathlib.Core.List.{List}
+use mathlib.Core.List.{List, _++_, map}
 use lib.Dec.{eqb, ltb}
-use lib.ListN.{length, take, drop}
+use lib.ListN.{length, getD, take, drop}
 use Rattle.files.specs.Room.{over}
 use Rattle.netlist.specs.declared.Hold.{Hold}
 use Rattle.netlist.specs.Netlist.{holdAt, holdsOf, gatesOf}
 use Rattle.wiring.specs.Questions.{areGates}
 use Rattle.drive.specs.Questions.{rankOf, areHolds}
-use Rattle.simulation.specs.Run.{holding, driversOf, workOut, held}
+use Rattle.simulation.specs.Run.{Rule, gateOf, holding, driversOf, workOut, held}
+use Rattle.simulation.specs.Service.{readBack, linesBefore}
 use Rattle.evaluation.specs.declared.ranks.Looked.{Looked}
 use Rattle.evaluation.specs.declared.ranks.Next.{Next}
 use Rattle.evaluation.specs.declared.lines.Cursor.{Cursor}
@@ -60,15 +61,35 @@ pub record Walks (holds : List ℕ) (line : ℕ) (c : Cursor) : Type 0 where
 abbrev pub PinsFree : List ℕ → ℕ → ℕ → Type 0
 PinsFree holds from to = (x site v : ℕ) → 1 ≤ site → site ≤ 2 → from ≤ x → x < to → held (holdsOf holds) x site v ≡ v
 
--- A buffer whose lines from one to another are worked out from those before them.
+-- The run rule on a buffer's bytes, which a gate reads back.
+abbrev pub reading : List Hold → Rule ℕ
+reading holds =
+    record {
+      op = λ line kind a b. gateOf kind (readBack (held holds line 1 a)) (readBack (held holds line 2 b));
+      shows = λ line v. held holds line 0 v;
+      none = 0;
+    }
+
+-- A buffer whose lines from one to another are worked out from the bytes before them.
 abbrev pub workedOver : List Hold → List ℕ → List ℕ → ℕ → ℕ → List ℕ → List ℕ
 workedOver holds rails gates from to buffer =
-    over (workOut (holding holds) (take (to - from) (drop (from - 2) (driversOf rails (gatesOf gates)))) (take from buffer)) buffer
+    over (workOut (reading holds) (take (to - from) (drop (from - 2) (driversOf rails (gatesOf gates)))) (take from buffer)) buffer
 
--- What lines are worked out from: gates whose sources are below their own lines, sorted holds, and room.
+-- The same with the constants set, by the run rule on the values that the bytes before them are read as.
+abbrev pub steppedOver : List Hold → List ℕ → List ℕ → ℕ → ℕ → List ℕ → List ℕ
+steppedOver holds rails gates from to buffer =
+    let before = linesBefore from buffer in
+    over
+    (before
+    ++ drop from
+    (workOut (holding holds) (take (to - from) (drop (from - 2) (driversOf rails (gatesOf gates)))) (map readBack before)))
+    buffer
+
+-- What lines are worked out from: rails of 0 and 1, gates whose sources are below their own lines, sorted holds, and room.
 pub record Ready (gates rails holds : List ℕ) (room : ℕ) : Type 0 where
   pub few : length rails ≤ 24
   pub many : length gates / 5 ≤ 10602
   pub fits : 2 + length rails + length gates / 5 ≤ room
+  pub bits : (i : ℕ) → getD rails i 0 ≤ 1
   pub wired : areGates (2 + length rails) gates ≡ true
   pub sorted : areHolds (2 + length rails) (2 + length rails + length gates / 5) holds ≡ true

@@ -14,25 +14,25 @@ use Rattle.evaluation.proofs.lines.put_all.Statement.{statement}
 use Rattle.evaluation.proofs.lines.put_all.Tie as tie
 
 abbrev Inv-loop : tie.InvT-loop
-Inv-loop gates rails holds lines₀ first count cursor₀ at₀ lines cursor at =
-    (first ≤ at) × (at ≤ count) × Walks holds at cursor × (lines ≡ workedOver (holdsOf holds) rails gates first at lines₀)
+Inv-loop gates rails holds from to lines₀ cursor₀ at₀ lines cursor at =
+    (from ≤ at) × (at ≤ to) × Walks holds at cursor × (lines ≡ workedOver (holdsOf holds) rails gates from at lines₀)
     × (length lines ≡ length lines₀)
 
 abbrev μ-loop : tie.MeasureT-loop
-μ-loop gates rails holds lines₀ first count cursor₀ at₀ lines cursor at = count + 1 - at
+μ-loop gates rails holds from to lines₀ cursor₀ at₀ lines cursor at = to + 1 - at
 
 sorted-of : (start : tie.Start Inv-loop μ-loop) → Sorted (start .args .holds .now)
-sorted-of start = let a = start .args in in-order (a .gates .now) (a .rails .now) (a .holds .now) (a .lines .now) (start .pre .0)
+sorted-of start = let a = start .args in in-order (a .gates .now) (a .rails .now) (a .holds .now) (a .lines .now) (start .pre .0 .0)
 
 -- Where the function starts, from where a turn of the loop does.
 abbrev start-of : tie.At-loop Inv-loop μ-loop → tie.Start Inv-loop μ-loop
 start-of loop = loop .before .before .before .before .before .before
 
-abbrev count-of : tie.At-loop Inv-loop μ-loop → ℕ
-count-of loop = let a = start-of loop .args in 2 + length (a .rails .now) + length (a .gates .now) / 5
+abbrev end-of : tie.At-loop Inv-loop μ-loop → ℕ
+end-of loop = start-of loop .args .to
 
-small-of : (loop : tie.At-loop Inv-loop μ-loop) → count-of loop < 10629
-small-of loop = omega (arith, start-of loop .pre .0 .few, start-of loop .pre .0 .many)
+small-of : (loop : tie.At-loop Inv-loop μ-loop) → end-of loop < 10629
+small-of loop = let p = start-of loop .pre in omega (arith, p .1 .2, p .0 .0 .few, p .0 .0 .many)
 
 -- The awaited pin is not before the line.
 pin-from : (loop : tie.At-loop Inv-loop μ-loop) → 65537 + 2 * loop .loop .at ≤ loop .loop .cursor .pin .rank
@@ -47,8 +47,8 @@ pin-from loop =
 ready-of : (loop : tie.At-loop Inv-loop μ-loop) (room : ℕ) → room ≡ length (start-of loop .args .lines .now) →
     Ready (start-of loop .args .gates .now) (start-of loop .args .rails .now) (start-of loop .args .holds .now) room
 ready-of loop room e =
-    let p = start-of loop .pre .0 in
-    record { few = p .few; many = p .many; fits = omega (arith, p .fits); wired = p .wired; sorted = p .sorted }
+    let p = start-of loop .pre .0 .0 in
+    record { few = p .few; many = p .many; fits = omega (arith, p .fits); bits = p .bits; wired = p .wired; sorted = p .sorted }
 
 -- A turn stops between its line and the end, not past the awaited pin's gate.
 abbrev loop-of : tie.After-lesser Inv-loop μ-loop → tie.At-loop Inv-loop μ-loop
@@ -57,7 +57,7 @@ loop-of met = met .before .before .before .before
 stop-of : (met : tie.After-lesser Inv-loop μ-loop) →
     let loop = loop-of met in
     let stop = met .lesser .result in
-    (loop .loop .at ≤ stop) × (stop ≤ count-of loop) × (stop ≤ (loop .loop .cursor .pin .rank - 65537) / 2)
+    (loop .loop .at ≤ stop) × (stop ≤ end-of loop) × (stop ≤ (loop .loop .cursor .pin .rank - 65537) / 2)
 stop-of met =
     let loop = loop-of met in
     let stop = met .lesser .ensures in
@@ -69,41 +69,42 @@ worked : (met : tie.After-lesser Inv-loop μ-loop) {us : List ℕ} →
     let a = start-of loop .args in
     let stop = met .lesser .result in
     us ≡ workedOver (holdsOf (a .holds .now)) (a .rails .now) (a .gates .now) (loop .loop .at) stop (loop .loop .lines) →
-    us ≡ workedOver (holdsOf (a .holds .now)) (a .rails .now) (a .gates .now) (2 + length (a .rails .now)) stop (a .lines .now)
+    us ≡ workedOver (holdsOf (a .holds .now)) (a .rails .now) (a .gates .now) (a .from) stop (a .lines .now)
 worked met e =
     let loop = loop-of met in
     let a = start-of loop .args in
     let (low, high, _) = stop-of met in
     let inv = loop .loop .inv in
-    further-put (holdsOf (a .holds .now)) (a .rails .now) (a .gates .now) (2 + length (a .rails .now)) (loop .loop .at) (met .lesser .result)
-    (omega arith) (inv .0) low high (a .lines .now) (omega (arith, start-of loop .pre .0 .fits)) (inv .3) e
+    let p = start-of loop .pre in
+    let top = p .1 .2 in
+    further-put (holdsOf (a .holds .now)) (a .rails .now) (a .gates .now) (a .from) (loop .loop .at) (met .lesser .result)
+    (omega (arith, p .1 .0)) (inv .0) low (omega arith) (a .lines .now) (omega (arith, p .0 .0 .fits)) (inv .3) e
 
-add-first : tie.Need-add-first Inv-loop μ-loop
-add-first c = search needs
-
-add-count : tie.Need-add-count Inv-loop μ-loop
-add-count c = search needs
+-- The first line is small.
+low-of : (start : tie.Start Inv-loop μ-loop) → start .args .from < 10629
+low-of start = let p = start .pre in omega (arith, p .1 .1, p .1 .2, p .0 .0 .few, p .0 .0 .many)
 
 mul-seek : tie.Need-mul-seek Inv-loop μ-loop
-mul-seek c = search needs
+mul-seek c = omega (arith, low-of (c .before .before .before .before))
 
 add-seek : tie.Need-add-seek Inv-loop μ-loop
-add-seek c = search needs
+add-seek c = omega (arith, low-of (c .before .before .before .before))
 
 seek-requires : tie.Need-seek-requires Inv-loop μ-loop
 seek-requires c κs =
     let start = c .before .before .before .before in
-    (sorted-of start, omega (arith, start .pre .0 .few))
+    (sorted-of start, omega (arith, low-of start))
 
 loop-holds : tie.Need-loop-holds Inv-loop μ-loop
 loop-holds c =
     let start = c .before .before .before .before .before in
     let a = start .args in
-    let first = 2 + length (a .rails .now) in (
+    let p = start .pre in (
       omega arith,
-      omega arith,
-      record { lines = start .pre .1; pins = c .seek .ensures },
-      none-put (holdsOf (a .holds .now)) (a .rails .now) (a .gates .now) first (omega arith) (a .lines .now) (omega (arith, start .pre .0 .fits)),
+      p .1 .1,
+      record { lines = p .0 .1; pins = c .seek .ensures },
+      none-put (holdsOf (a .holds .now)) (a .rails .now) (a .gates .now) (a .from) (omega (arith, p .1 .0)) (a .lines .now)
+          (omega (arith, p .1 .1, p .1 .2, p .0 .0 .fits)),
       refl,
     )
 
@@ -124,7 +125,8 @@ put-gates-requires c κs =
     let free =
     pins-free (a .gates .now) (a .rails .now) (a .holds .now) (loop .loop .lines) ready (loop .loop .at) (met .lesser .result)
     (loop .loop .cursor .pin) (inv .2 .pins) bound low (omega (arith, pin-from loop)) in
-    ((ready, inv .2 .lines, free), (inv .0, low, high))
+    let p = start-of loop .pre .1 in
+    ((ready, inv .2 .lines, free), (omega (arith, p .0, inv .0), low, omega (arith, p .2)))
 
 same-length : tie.Need-same-length Inv-loop μ-loop
 same-length c = c .before .before .before .put-gates .kept .1 .1 .1 .1 .1 .1 .0 ∙ loop-of (c .before .before .before .before .before) .loop .inv .4
@@ -134,7 +136,7 @@ returns c =
     let met = c .before .before .before .before .before in
     let a = start-of (loop-of met) .args in
     worked met (c .before .before .before .put-gates .ensures .1)
-    ∙ ap (λ (k : ℕ). workedOver (holdsOf (a .holds .now)) (a .rails .now) (a .gates .now) (2 + length (a .rails .now)) k (a .lines .now))
+    ∙ ap (λ (k : ℕ). workedOver (holdsOf (a .holds .now)) (a .rails .now) (a .gates .now) (a .from) k (a .lines .now))
     (c .if1 .taken)
 
 put-pinned-requires : tie.Need-put-pinned-requires Inv-loop μ-loop
@@ -149,7 +151,8 @@ put-pinned-requires c κs =
     let pins =
     awaits-on (a .gates .now) (a .rails .now) (a .holds .now) (loop .loop .lines) (ready-of loop (length (loop .loop .lines)) (inv .4))
     (loop .loop .at) (met .lesser .result) (loop .loop .cursor .pin) (inv .2 .pins) bound low (omega (arith, pin-from loop)) in
-    ((ready, record { lines = gates .ensures .0; pins = pins }), (omega (arith, inv .0), omega (arith, c .before .if1 .left)))
+    let p = start-of loop .pre .1 in
+    ((ready, record { lines = gates .ensures .0; pins = pins }), (omega (arith, p .0, inv .0), omega (arith, p .2, c .before .if1 .left)))
 
 add-at : tie.Need-add-at Inv-loop μ-loop
 add-at c =
@@ -171,13 +174,14 @@ loop-again c =
     let inv = loop .loop .inv in
     let (low, high, _) = stop-of met in
     let stop = met .lesser .result in
-    let below : stop + 1 ≤ count-of loop = omega (arith, c .before .before .before .before .if1 .left) in (
+    let p = start-of loop .pre in
+    let below : stop + 1 ≤ end-of loop = omega (arith, c .before .before .before .before .if1 .left) in (
       omega (arith, inv .0),
       below,
       pinned .ensures .0,
-      further-put (holdsOf (a .holds .now)) (a .rails .now) (a .gates .now) (2 + length (a .rails .now)) stop (stop + 1) (omega arith)
-          (omega (arith, inv .0)) (omega arith) below (a .lines .now) (omega (arith, start-of loop .pre .0 .fits)) (worked met (gates .ensures .1))
-          (pinned .ensures .1),
+      further-put (holdsOf (a .holds .now)) (a .rails .now) (a .gates .now) (a .from) stop (stop + 1) (omega (arith, p .1 .0))
+          (omega (arith, inv .0)) (omega arith) (omega (arith, p .1 .2)) (a .lines .now) (omega (arith, p .1 .2, p .0 .0 .fits))
+          (worked met (gates .ensures .1)) (pinned .ensures .1),
       pinned .kept .1 .1 .1 .1 .1 .0 ∙ gates .kept .1 .1 .1 .1 .1 .1 .0 ∙ inv .4,
     )
 
@@ -187,8 +191,6 @@ put-all-spec =
     (tie.spec
     Inv-loop
     μ-loop
-    add-first
-    add-count
     mul-seek
     add-seek
     seek-requires

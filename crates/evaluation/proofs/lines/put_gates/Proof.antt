@@ -128,7 +128,7 @@ loop-again c =
     let (at, within) = in-gates loop below in
     let small : x < 65536 = omega (arith, start .pre .1 .2, p .few, p .many) in
     let ready : Ready (a .gates .now) (a .rails .now) (a .holds .now) (length (loop .loop .lines)) =
-    record { few = p .few; many = p .many; fits = omega (arith, p .fits, inv .4); wired = p .wired; sorted = p .sorted } in
+    record { few = p .few; many = p .many; fits = omega (arith, p .fits, inv .4); bits = p .bits; wired = p .wired; sorted = p .sorted } in
     let free = start .pre .0 .2 in
     let put =
     gate-held (a .gates .now) (a .rails .now) (a .holds .now) (loop .loop .lines) ready x (gate-of loop) (read .gate-at .result) at within

@@ -1,18 +1,52 @@
--- `lines::work_out` meets its contract: the constants, then the rails' lines, then the gates'.
+-- `lines::work_out` meets its contract: the constants, then the rails' lines, then the gates', as far as the step goes.
 use borrow.Author.Needs.{needs}
 use native.Mathlib.Omega.{arith}
-use Prim.Native.Nat.{_+_, _/_, _≤_}
-use mathlib.Core.Path.{_≡_, _∙_}
+use Prim.Native.Nat.{ℕ, _+_, _/_, _≤_, _<_}
+use mathlib.Core.Path.{_≡_, ap, _∙_}
+use mathlib.Core.List.{List, []}
 use lib.ListN.{length, set, length-set}
-use Rattle.netlist.specs.Netlist.{gatesOf, holdsOf}
-use Rattle.netlist.proofs.Lists.{length-gates}
-use Rattle.simulation.specs.Run.{holding, driversOf}
-use Rattle.simulation.proofs.Worked.{length-drivers}
-use Rattle.simulation.proofs.Writes.{all-lines}
+use Rattle.netlist.specs.Netlist.{holdsOf}
+use Rattle.evaluation.specs.Inner.Walk.{Sorted, Ready, workedOver, steppedOver}
 use Rattle.evaluation.proofs.Putting.{only-rails, further-put}
-use Rattle.evaluation.proofs.Walking.{in-order, starts}
+use Rattle.evaluation.proofs.Reading.{stepped-over}
+use Rattle.evaluation.proofs.Walking.{in-order}
 use Rattle.evaluation.proofs.lines.work_out.Statement.{statement}
 use Rattle.evaluation.proofs.lines.work_out.Tie as tie
+
+sorted-of : (start : tie.Start) → Sorted (start .args .holds .now)
+sorted-of start = let a = start .args in in-order (a .gates .now) (a .rails .now) (a .holds .now) (a .lines .now) (start .pre .0)
+
+-- What the lines are worked out from, in a buffer as long as the lent one.
+ready-of : (start : tie.Start) (room : ℕ) → room ≡ length (start .args .lines .now) →
+    Ready (start .args .gates .now) (start .args .rails .now) (start .args .holds .now) room
+ready-of start room e =
+    let p = start .pre .0 in
+    record { few = p .few; many = p .many; fits = omega (arith, p .fits); bits = p .bits; wired = p .wired; sorted = p .sorted }
+
+-- The lent buffer with its constants set.
+abbrev begun : tie.Start → List ℕ
+begun start = set (set (start .args .lines .now) 0 0) 1 1
+
+long : (start : tie.Start) → length (begun start) ≡ length (start .args .lines .now)
+long start = simp length-set
+
+-- All lines that the step works out, put one after the other, are what it is to leave.
+all-of : (start : tie.Start) {ws : List ℕ} →
+    (let a = start .args in ws ≡ workedOver (holdsOf (a .holds .now)) (a .rails .now) (a .gates .now) (a .from) (a .to) (begun start)) →
+    (let a = start .args in ws ≡ steppedOver (holdsOf (a .holds .now)) (a .rails .now) (a .gates .now) (a .from) (a .to) (a .lines .now))
+all-of start e =
+    let a = start .args in
+    let p = start .pre in
+    stepped-over (holdsOf (a .holds .now)) (a .rails .now) (a .gates .now) (a .from) (a .to) (a .lines .now) (p .0 .bits) (p .1 .0)
+    (omega (arith, p .1 .1, p .1 .2, p .0 .fits)) e
+
+-- The rails' lines, up to the first gate or the step's end.
+rails-of : (start : tie.Start) (stop : ℕ) → start .args .from ≤ stop → stop ≤ 2 + length (start .args .rails .now) → {ws : List ℕ} →
+    (let a = start .args in ws ≡ workedOver (holdsOf (a .holds .now)) (a .rails .now) [] (a .from) stop (begun start)) →
+    (let a = start .args in ws ≡ workedOver (holdsOf (a .holds .now)) (a .rails .now) (a .gates .now) (a .from) stop (begun start))
+rails-of start stop l h e =
+    let a = start .args in
+    e ∙ only-rails (holdsOf (a .holds .now)) (a .rails .now) (a .gates .now) (a .from) stop (start .pre .1 .0) l h (begun start)
 
 slice-write-lines : tie.Need-slice-write-lines
 slice-write-lines c = search needs
@@ -20,50 +54,96 @@ slice-write-lines c = search needs
 slice-write-lines-2 : tie.Need-slice-write-lines-2
 slice-write-lines-2 c = simp length-set (omega arith)
 
-next-at-requires : tie.Need-next-at-requires
-next-at-requires c κs = search needs
+add-first : tie.Need-add-first
+add-first c = search needs
 
-put-rails-requires : tie.Need-put-rails-requires
-put-rails-requires c κs =
-    let start = c .before .before .before .before .before .before in
-    let a = start .args in
+seek-requires : tie.Need-seek-requires
+seek-requires c κs =
+    let start = c .before .before .before .before in
     let p = start .pre in
-    let (place, is) = c .before .next-at .ensures in
-    let first = starts (a .gates .now) (a .rails .now) (a .holds .now) (a .lines .now) p _ place is in
-    let sorted = in-order (a .gates .now) (a .rails .now) (a .holds .now) (a .lines .now) p in
-    ((sorted, first), (p .few, simp length-set (omega (arith, p .fits))))
+    (sorted-of start, omega (arith, p .1 .1, p .1 .2, p .0 .few, p .0 .many))
 
 put-all-requires : tie.Need-put-all-requires
 put-all-requires c κs =
-    let rails = c .before .before .before .put-rails in
-    let start = c .before .before .before .before .before .before .before .before .before .before in
-    let p = start .pre in
-    let kept : length (rails .last .1 .1 .1 .0) ≡ length (start .args .lines .now) = simp length-set at (rails .kept .1 .1 .1 .0) in
-    (record { few = p .few; many = p .many; fits = omega (arith, p .fits); wired = p .wired; sorted = p .sorted }, rails .ensures .0)
+    let start = c .before .before .before .before .before .before .before in
+    ((ready-of start _ (long start), c .before .before .seek .ensures), (c .before .if1 .taken, start .pre .1 .1, start .pre .1 .2))
 
 same-length : tie.Need-same-length
 same-length c =
-    let rails = c .before .before .before .before .before .before .put-rails in
-    c .before .before .put-all .kept .1 .1 .1 .1 .0 ∙ simp length-set at (rails .kept .1 .1 .1 .0)
+    c .before .before .put-all .kept .1 .1 .1 .1 .1 .1 .0
+    ∙ long (c .before .before .before .before .before .before .before .before .before .before)
 
 returns : tie.Need-returns
-returns c =
-    let rails = c .before .before .before .before .before .before .put-rails in
+returns c = all-of (c .before .before .before .before .before .before .before .before .before .before) (c .before .before .put-all .ensures)
+
+lesser-requires : tie.Need-lesser-requires
+lesser-requires c κs = search needs
+
+put-rails-requires : tie.Need-put-rails-requires
+put-rails-requires c κs =
+    let start = c .before .before .before .before .before .before .before .before in
+    let p = start .pre in
+    let stop = c .before .lesser .ensures in
+    let rails : start .args .from < 2 + length (start .args .rails .now) = omega (arith, c .before .before .if1 .left) in (
+      (sorted-of start, c .before .before .before .seek .ensures),
+      (
+        p .1 .0,
+        omega (arith, p .1 .1),
+        omega arith,
+        p .0 .few,
+        omega (arith, long start, p .1 .2, p .0 .fits),
+      ),
+    )
+
+-- Rails and gates: where the rails' lines end is the first gate's.
+put-all-requires-2 : tie.Need-put-all-requires-2
+put-all-requires-2 c κs =
+    let rails = c .before .before .before .before .put-rails in
+    let stop = c .before .before .before .before .before .before .lesser .ensures in
     let start = c .before .before .before .before .before .before .before .before .before .before .before .before .before in
+    let more = c .before .if2 .taken in (
+      (ready-of start _ (rails .kept .1 .1 .1 .1 .1 .0 ∙ long start), rails .ensures .0),
+      (omega arith, omega arith, start .pre .1 .2),
+    )
+
+same-length-2 : tie.Need-same-length-2
+same-length-2 c =
+    let start = c .before .before .before .before .before .before .before .before .before .before .before .before .before .before .before .before in
+    c .before .before .put-all2 .kept .1 .1 .1 .1 .1 .1 .0
+    ∙ c .before .before .before .before .before .before .before .put-rails .kept .1 .1 .1 .1 .1 .0 ∙ long start
+
+returns-2 : tie.Need-returns-2
+returns-2 c =
+    let start = c .before .before .before .before .before .before .before .before .before .before .before .before .before .before .before .before in
+    let rails = c .before .before .before .before .before .before .before .put-rails in
+    let met = c .before .before .before .before .before .before .before .before .before in
+    let stop = met .lesser .ensures in
+    let below = met .before .if1 .left in
     let a = start .args in
     let p = start .pre in
-    let holds = holdsOf (a .holds .now) in
-    let us = set (set (a .lines .now) 0 0) 1 1 in
-    let first = 2 + length (a .rails .now) in
-    let count = first + length (a .gates .now) / 5 in
-    let size = length-drivers (a .rails .now) (gatesOf (a .gates .now)) in
-    let begun =
-    rails .ensures .1 ∙ only-rails holds (a .rails .now) (a .gates .now) 2 first (omega arith) (omega arith) (omega arith) us in
-    let room : count ≤ length us = simp length-set (p .fits) in
-    all-lines (holding holds) (driversOf (a .rails .now) (gatesOf (a .gates .now))) (a .lines .now) count
-    (omega (arith, size, length-gates (a .gates .now))) (p .fits)
-    (further-put holds (a .rails .now) (a .gates .now) 2 first count (omega arith) (omega arith) (omega arith) (omega arith) us room begun
-    (c .before .before .put-all .ensures))
+    let low : a .from ≤ met .lesser .result = omega (arith, p .1 .1) in
+    all-of start
+    (further-put (holdsOf (a .holds .now)) (a .rails .now) (a .gates .now) (a .from) (met .lesser .result) (a .to) (p .1 .0) low (omega arith)
+    (p .1 .2) (begun start) (omega (arith, long start, p .1 .2, p .0 .fits))
+    (rails-of start (met .lesser .result) low (omega arith) (rails .ensures .1)) (c .before .before .put-all2 .ensures))
+
+same-length-3 : tie.Need-same-length-3
+same-length-3 c =
+    c .before .before .before .put-rails .kept .1 .1 .1 .1 .1 .0
+    ∙ long (c .before .before .before .before .before .before .before .before .before .before .before .before)
+
+returns-3 : tie.Need-returns-3
+returns-3 c =
+    let start = c .before .before .before .before .before .before .before .before .before .before .before .before in
+    let met = c .before .before .before .before .before in
+    let stop = met .lesser .ensures in
+    let below = met .before .if1 .left in
+    let a = start .args in
+    let low : a .from ≤ met .lesser .result = omega (arith, start .pre .1 .1) in
+    let end : met .lesser .result ≡ a .to = omega (arith, c .if2 .left) in
+    all-of start
+    (rails-of start (met .lesser .result) low (omega arith) (c .before .before .before .put-rails .ensures .1)
+    ∙ ap (λ (k : ℕ). workedOver (holdsOf (a .holds .now)) (a .rails .now) (a .gates .now) (a .from) k (begun start)) end)
 
 pub work-out-spec : {M : Type 1} → statement M
 work-out-spec =
@@ -71,8 +151,15 @@ work-out-spec =
     (tie.spec
     slice-write-lines
     slice-write-lines-2
-    next-at-requires
-    put-rails-requires
+    add-first
+    seek-requires
     put-all-requires
     same-length
-    returns)
+    returns
+    lesser-requires
+    put-rails-requires
+    put-all-requires-2
+    same-length-2
+    returns-2
+    same-length-3
+    returns-3)
