@@ -2,5 +2,6 @@
 mod lines;
 mod ranks;
 
+pub use lines::lesser;
 pub use lines::read_back;
 pub use lines::work_out;

@@ -129,7 +129,7 @@ fn put_pinned(
 }
 
 // The lesser of two numbers.
-fn lesser(x: usize, y: usize) -> usize
+pub fn lesser(x: usize, y: usize) -> usize
     ensures { λ r. ⌜ r ≡ min x y ⌝ }
 {
     if x < y { x } else { y }

@@ -1,118 +1,118 @@
--- What a run refuses and what it leaves, question by question.
+-- What a step refuses and what it leaves, question by question.
+use borrow.Author.Tests.{eq-eqb, ne-eqb}
 use native.Mathlib.Omega.{arith}
-use Prim.Native.Nat.{ℕ, zero, suc, _+_, _*_, _/_, _≤_}
-use mathlib.Core.Path.{_≡_, refl, ap, ap₂, _∙_}
-use mathlib.Core.Bool.{true}
-use mathlib.Core.List.{List, [], _∷_, _++_}
-use lib.ListN.{length, length-append, length-map}
-use lib.Seq.{sets}
-use Rattle.fields.specs.Refusals.{firstNo}
-use Rattle.drive.specs.declared.Rails.the-variants.{Driven, Undriven}
-use Rattle.drive.specs.declared.Holds.the-variants.{Ordered, Disordered}
-use Rattle.files.specs.declared.room.Room.the-variants.{Enough, Short}
-use Rattle.netlist.specs.Netlist.{gateLine, gatesOf, pairAt, pairsOf, holdsOf}
-use Rattle.simulation.specs.Run.{holding, driversOf, workOut, valuesOf, shownOf}
-use Rattle.wiring.specs.Questions.{arePairs}
-use Rattle.drive.specs.Questions.{railsOf, railsNumber, orderOf, holdsNumber}
-use Rattle.simulation.specs.Service.{runRefusal, runOf}
-use Rattle.files.specs.Room.{over, roomOf, roomNumber}
-use Rattle.fields.proofs.Refusals.{first-no}
-use Rattle.files.proofs.Buffers.{enough, sets-over}
-use Rattle.files.proofs.Written.{onward}
+use Prim.Native.Nat.{ℕ, zero, suc, _+_, _*_, _-_, _/_, _≤_, _<_, min}
+use mathlib.Core.Path.{_≡_, refl, sym, ap, ap₂, _∙_}
+use mathlib.Core.Bool.{Bool, true, cond}
+use mathlib.Core.List.{List, _++_, map}
+use lib.Dec.{eqb}
+use lib.ListN.{length, getD, take, drop}
+use Rattle.fields.proofs.Refusals.{first-no, first-next}
+use Rattle.files.specs.Room.{over}
+use Rattle.netlist.specs.Netlist.{Netlist, gateLine, lineCount, gatesOf, pairsOf, pairAt, netWith, holdsOf}
+use Rattle.netlist.proofs.Lists.{length-gates, length-pairs, getD-pairs}
+use Rattle.wiring.specs.Questions.{arePairs, netlistIn}
 use Rattle.wiring.specs.declared.reading.Parts.{Parts}
 use Rattle.wiring.specs.Inner.Read.{Read}
 use Rattle.wiring.proofs.Opened.{Opened, net-is, outputs-wired, lamp-wired}
-use Rattle.simulation.proofs.Answers.{driven}
-use Rattle.netlist.proofs.Lists.{length-gates, length-pairs, getD-pairs}
-use Rattle.simulation.proofs.Runs.{length-run}
 use Rattle.wiring.proofs.Tests.{pairs-at}
-use Rattle.simulation.proofs.Shown.{length-shown, shown-over}
+use Rattle.simulation.specs.Run.{Driver, holding, driversOf, workOut, shownOf, shownBy}
+use Rattle.simulation.specs.Service.{readBack, linesBefore, steppedValues, stepRefusal, steppedOr, stepOf}
+use Rattle.simulation.proofs.Answers.{driven-bits}
+use Rattle.simulation.proofs.Shown.{shown-same}
+use Rattle.simulation.proofs.Whole.{Taken, taken, count-of}
+use Rattle.evaluation.specs.Inner.Walk.{steppedOver}
+use Rattle.run.specs.Inner.Asking.{askingOf}
+use Rattle.run.proofs.Values.{as-many, read-at}
 
-module _ (file rails holds lines pairs : List ℕ) where
-  -- What a run returns, and what it leaves in the two buffers.
-  abbrev pub RunLeaves : ℕ → List ℕ → List ℕ → Type 0
-  RunLeaves k ls ps = record { refusal = k; lines = ls; pairs = ps } ≡ runOf file rails holds lines pairs
+module _ (file rails holds : List ℕ) (place count : ℕ) (lines pairs : List ℕ) where
+  -- What a step returns, and what it leaves in the two buffers.
+  abbrev pub StepLeaves : ℕ → ℕ → List ℕ → List ℕ → Type 0
+  StepLeaves k p ls ps = record { refusal = k; place = p; lines = ls; pairs = ps } ≡ stepOf file rails holds place count lines pairs
 
   abbrev refusal : ℕ
-  refusal = runRefusal file rails holds (length lines) (length pairs)
+  refusal = stepRefusal file rails holds place (length lines) (length pairs)
 
-  refused : (k : ℕ) → refusal ≡ k → (k ≡ 0 → ⊥) → RunLeaves k lines pairs
-  unfolding runOf
-  refused zero e h = absurd (h refl)
-  refused (suc k) e h = rw e
+  refused : (k p : ℕ) → refusal ≡ k → (k ≡ 0 → ⊥) → p ≡ 0 → StepLeaves k p lines pairs
+  unfolding stepOf
+  refused zero p e h z = absurd (h refl)
+  refused (suc k) p e h z = rw (e, z)
 
-  pub unread : {p : Parts} → Read file p → (p .refusal ≡ 0 → ⊥) → RunLeaves (p .refusal) lines pairs
-  unfolding runRefusal
-  unread {p} r h = refused (p .refusal) (rw (← r .refusal) (first-no _ _ h)) h
+  pub unread : {p : Parts} {k q : ℕ} → Read file p → k ≡ p .refusal → (p .refusal ≡ 0 → ⊥) → q ≡ 0 → StepLeaves k q lines pairs
+  unfolding stepRefusal
+  unread {p} {k} {q} r e h z = refused k q (rw (e, ← r .refusal) (first-no _ _ h)) (rw e h) z
 
   -- Once questions 11 and 12 have their yes.
   module _ {n : ℕ} {gates outputs lamp : List ℕ} (o : Opened file n gates outputs lamp) where
-    abbrev count : ℕ
-    count = gateLine n + length gates / 5
+    abbrev end : ℕ
+    end = gateLine n + length gates / 5
 
-    asked : refusal
-        ≡ firstNo
-        (railsNumber (railsOf n rails)
-        ∷ holdsNumber (orderOf (gateLine n) count holds)
-        ∷ roomNumber (roomOf count (length lines))
-        ∷ roomNumber (roomOf (2 * (length outputs / 4 + length lamp / 4)) (length pairs))
-        ∷ [])
-    unfolding runRefusal firstNo
-    asked = rw (o .accepted, net-is o, length-gates gates, length-pairs outputs, length-pairs lamp)
+    abbrev net : Netlist
+    net = netWith n (gatesOf gates) (pairsOf outputs) (pairsOf lamp)
 
-    pub undriven : railsOf n rails ≡ Undriven → RunLeaves 13 lines pairs
-    unfolding firstNo
-    undriven e = refused 13 (asked ∙ rw e) (omega arith)
+    abbrev asking : ℕ
+    asking = askingOf n end (length outputs / 4 + length lamp / 4) rails holds place (length lines) (length pairs)
 
-    module _ (r : railsOf n rails ≡ Driven) where
-      pub disordered : orderOf (gateLine n) count holds ≡ Disordered → RunLeaves 14 lines pairs
-      unfolding firstNo
-      disordered e = refused 14 (asked ∙ rw (r, e)) (omega arith)
+    asked : refusal ≡ asking
+    unfolding stepRefusal
+    asked = first-next _ _ (o .accepted) ∙ rw (net-is o, length-gates gates, length-pairs outputs, length-pairs lamp)
 
-      module _ (h : orderOf (gateLine n) count holds ≡ Ordered) where
-        pub first-short : roomOf count (length lines) ≡ Short → RunLeaves 9 lines pairs
-        unfolding firstNo
-        first-short e = refused 9 (asked ∙ rw (r, h, e)) (omega arith)
+    pub unanswered : {k j q : ℕ} → j ≡ asking → k ≡ j → (j ≡ 0 → ⊥) → q ≡ 0 → StepLeaves k q lines pairs
+    unanswered {k} {j} {q} a e h z = refused k q (asked ∙ sym a ∙ sym e) (rw e h) z
 
-        module _ (a : roomOf count (length lines) ≡ Enough) where
-          pub second-short : roomOf (2 * (length outputs / 4 + length lamp / 4)) (length pairs) ≡ Short → RunLeaves 9 lines pairs
-          unfolding firstNo
-          second-short e = refused 9 (asked ∙ rw (r, h, a, e)) (omega arith)
+    -- Once all questions have their yes.
+    module _ {j : ℕ} (a : j ≡ asking) (z : j ≡ 0) where
+      none : refusal ≡ 0
+      none = asked ∙ sym a ∙ z
 
-          values : List ℕ → List ℕ
-          values v = workOut (holding (holdsOf holds)) (driversOf rails (gatesOf v)) (0 ∷ 1 ∷ [])
+      pub given : Taken net rails holds place (length lines) (length pairs)
+      given = rw (net-is o) at (taken file rails holds place (length lines) (length pairs) none)
 
-          length-values : length (values gates) ≡ count
-          unfolding values
-          length-values =
-              length-run (holding (holdsOf holds)) (driversOf rails (gatesOf gates)) (0 ∷ 1 ∷ [])
-              ∙ simp (length-append, length-map, length-gates) (omega (arith, driven n rails r))
+      pub count-is : lineCount net ≡ end
+      count-is = ap (_+_ (gateLine n)) (length-gates gates)
 
-          shown : (v : List ℕ) → arePairs count v ≡ true →
-              shownOf (pairsOf v) (over (values gates) lines) ≡ shownOf (pairsOf v) (values gates)
-          shown v wired =
-              shown-over (values gates) lines (pairAt v 0) (pairsOf v)
-              (λ j m. rw (length-values, getD-pairs v j (pairAt v 0) (omega (arith, length-pairs v)))
-              (pairs-at count v wired j (omega (arith, length-pairs v))))
+      module _ {to : ℕ} {ls : List ℕ} (t : to ≡ min (place + count) end)
+          (l : ls ≡ steppedOver (holdsOf holds) rails gates place to lines) where
+        abbrev values : List ℕ
+        values = steppedValues net rails holds place count lines
 
-          -- The outputs' pairs, and the lamp's behind them.
-          both : (us ws : List ℕ) {ps qs : List ℕ} → length us ≡ 2 * (length outputs / 4) → length ws ≡ 2 * (length lamp / 4) →
-              2 * (length outputs / 4 + length lamp / 4) ≤ length pairs → ps ≡ sets pairs 0 us →
-              qs ≡ sets ps (2 * (length outputs / 4)) ws → qs ≡ over (us ++ ws) pairs
-          both us ws k m room e f =
-              onward pairs 0 us ws e f (omega arith) ∙ sets-over (us ++ ws) pairs (omega (arith, length-append us ws))
+        out : to ≡ min (place + count) (lineCount net)
+        out = rw count-is t
 
-          pub done : {ls ps qs : List ℕ} → roomOf (2 * (length outputs / 4 + length lamp / 4)) (length pairs) ≡ Enough →
-              ls ≡ over (workOut (holding (holdsOf holds)) (driversOf rails (gatesOf gates)) (0 ∷ 1 ∷ [])) lines →
-              ps ≡ sets pairs (2 * 0) (shownOf (pairsOf outputs) ls) →
-              qs ≡ sets ps (2 * (length outputs / 4)) (shownOf (pairsOf lamp) ls) → RunLeaves 0 ls qs
-          unfolding firstNo runOf valuesOf values
-          done {ls} b l p q =
-              let e : refusal ≡ 0 = asked ∙ rw (r, h, a, b) in
-              let k : (v : List ℕ) → length (shownOf (pairsOf v) ls) ≡ 2 * (length v / 4) = λ v.
-              length-shown ls (pairsOf v) ∙ ap (_*_ 2) (length-pairs v) in
-              let own : (v : List ℕ) → arePairs count v ≡ true → shownOf (pairsOf v) ls ≡ shownOf (pairsOf v) (values gates) = λ v w.
-              ap (shownOf (pairsOf v)) l ∙ shown v w in
-              let told = both (shownOf (pairsOf outputs) ls) (shownOf (pairsOf lamp) ls) (k outputs) (k lamp) (enough _ _ b) p q
-              ∙ ap₂ (λ (us ws : List ℕ). over (us ++ ws) pairs) (own outputs (outputs-wired o)) (own lamp (lamp-wired o)) in
-              rw (e, net-is o) (λ i. record { refusal = 0; lines = l i; pairs = told i })
+        lines-left : ls ≡ over (linesBefore place lines ++ drop place values) lines
+        lines-left =
+            l ∙ ap (λ (ds : List (Driver ℕ)).
+            over (linesBefore place lines ++ drop place (workOut (holding (holdsOf holds)) ds (map readBack (linesBefore place lines)))) lines)
+            (ap (λ (k : ℕ). take (k - place) (drop (place - 2) (driversOf rails (gatesOf gates)))) out
+            ∙ as-many net rails holds place count lines (driven-bits n rails (given .driven)) (count-of net rails (given .driven)) (given .from)
+            (given .upto) (given .room))
+
+        leaves : {ps : List ℕ} → ps ≡ cond (eqb (min (place + count) (lineCount net)) (lineCount net)) (over (shownBy net values) pairs) pairs →
+            StepLeaves 0 to ls ps
+        unfolding stepOf
+        leaves p = rw (none, net-is o) (λ i. record { refusal = 0; place = out i; lines = lines-left i; pairs = p i })
+
+        pub part : to < end → StepLeaves 0 to ls pairs
+        part h =
+            leaves
+            (sym (ap (λ (b : Bool). cond b (over (shownBy net values) pairs) pairs)
+            (ne-eqb (min (place + count) (lineCount net)) (lineCount net) (λ e. omega (arith, out, count-is)))))
+
+        -- The pairs are those of the step's values.
+        shown : end ≤ to → (v : List ℕ) → arePairs end v ≡ true → shownOf (pairsOf v) (map readBack ls) ≡ shownOf (pairsOf v) values
+        shown h v wired =
+            shown-same end (map readBack ls) values
+            (λ i k. ap (λ (us : List ℕ). getD (map readBack us) i 0) lines-left
+            ∙ read-at net rails holds place count lines (driven-bits n rails (given .driven)) (count-of net rails (given .driven)) (given .from)
+            (given .upto) (given .room) i (omega (arith, out)))
+            (pairAt v 0) (pairsOf v)
+            (λ j m. rw (getD-pairs v j (pairAt v 0) (omega (arith, length-pairs v)))
+            (pairs-at end v wired j (omega (arith, length-pairs v))))
+
+        pub whole : {ps : List ℕ} → end ≤ to →
+            ps ≡ over (shownOf (pairsOf outputs) (map readBack ls) ++ shownOf (pairsOf lamp) (map readBack ls)) pairs → StepLeaves 0 to ls ps
+        whole h p =
+            leaves
+            (p ∙ ap₂ (λ (us ws : List ℕ). over (us ++ ws) pairs) (shown h outputs (outputs-wired o)) (shown h lamp (lamp-wired o))
+            ∙ sym (ap (λ (b : Bool). cond b (over (shownBy net values) pairs) pairs)
+            (eq-eqb (min (place + count) (lineCount net)) (lineCount net) (omega (arith, out, count-is)))))

@@ -19,12 +19,12 @@ module _ (outputs values buffer : List ℕ) (before : ℕ) where
   abbrev pub paired : ℕ → List ℕ
   paired j = sets buffer (2 * before) (shownOf (listed (pairAt outputs) j 0) values)
 
-  pub pair-more : (j : ℕ) {pairs : List ℕ} {p : Pair} {at : ℕ} → pairs ≡ paired j → p ≡ pairAt outputs j → at ≡ 2 * (before + j) →
-      set (set pairs at (getD values (p .on) 0)) (at + 1) (getD values (p .off) 0) ≡ paired (j + 1)
-  pair-more j {pairs} {p} {at} e q i =
+  pub pair-more : (j : ℕ) {pairs : List ℕ} {p : Pair} {at a b : ℕ} → pairs ≡ paired j → p ≡ pairAt outputs j → at ≡ 2 * (before + j) →
+      a ≡ getD values (p .on) 0 → b ≡ getD values (p .off) 0 → set (set pairs at a) (at + 1) b ≡ paired (j + 1)
+  pair-more j {pairs} {p} {at} {a} {b} e q i on off =
       let ps = listed (pairAt outputs) j 0 in
       let two : List ℕ = getD values (p .on) 0 ∷ getD values (p .off) 0 ∷ [] in
-      let one : set (set pairs at (getD values (p .on) 0)) (at + 1) (getD values (p .off) 0) ≡ sets pairs at two = simp towards-suc in
+      let one : set (set pairs at a) (at + 1) b ≡ sets pairs at two = rw (on, off) (simp towards-suc) in
       onward buffer (2 * before) (shownOf ps values) two e one
       (omega (arith, length-shown values ps, length-listed (pairAt outputs) j 0))
       ∙ ap (sets buffer (2 * before))

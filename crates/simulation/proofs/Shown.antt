@@ -6,8 +6,6 @@ use mathlib.Core.List.{List, [], _∷_, _++_, flatMap}
 use lib.ListN.{length, getD}
 use Rattle.netlist.specs.declared.Pair.{Pair}
 use Rattle.netlist.proofs.Sound.{PairIn}
-use Rattle.files.specs.Room.{over}
-use Rattle.files.proofs.Buffers.{over-at}
 use Rattle.simulation.specs.Run.{shownOf}
 
 module _ (values : List ℕ) where
@@ -22,15 +20,15 @@ module _ (values : List ℕ) where
   shown-more [] p = refl
   shown-more (q ∷ ps) p = ap (λ (l : List ℕ). getD values (q .on) 0 ∷ getD values (q .off) 0 ∷ l) (shown-more ps p)
 
--- Pairs are read off the values' own part of a buffer.
-pub shown-over : (values buffer : List ℕ) (d : Pair) (ps : List Pair) →
-    ((j : ℕ) → j < length ps → PairIn (length values) (getD ps j d)) → shownOf ps (over values buffer) ≡ shownOf ps values
+-- Pairs are read off their own lines alone.
+pub shown-same : (lines : ℕ) (vs ws : List ℕ) → ((i : ℕ) → i < lines → getD vs i 0 ≡ getD ws i 0) → (d : Pair) (ps : List Pair) →
+    ((j : ℕ) → j < length ps → PairIn lines (getD ps j d)) → shownOf ps vs ≡ shownOf ps ws
 unfolding shownOf flatMap
-shown-over values buffer d [] h = refl
-shown-over values buffer d (p ∷ ps) h =
+shown-same lines vs ws same d [] h = refl
+shown-same lines vs ws same d (p ∷ ps) h =
     let i = h 0 (omega arith) in
     cc (
-      over-at values buffer (p .on) (i .on),
-      over-at values buffer (p .off) (i .off),
-      shown-over values buffer d ps (λ j l. h (suc j) (omega arith)),
+      same (p .on) (i .on),
+      same (p .off) (i .off),
+      shown-same lines vs ws same d ps (λ j l. h (suc j) (omega arith)),
     )

@@ -23,7 +23,7 @@ use Rattle.drive.specs.declared.Place.{Place}
 use Rattle.drive.specs.declared.Place.the-variants.{Within, Outside}
 use Rattle.drive.specs.Questions.{railsOf, railsNumber, orderOf, holdsNumber, placeOf, placeNumber}
 use Rattle.simulation.specs.Run.{Driver, workOut, holding, driversOf, valuesOf, shownBy}
-use Rattle.simulation.specs.Service.{linesBefore, steppedValues, steppedOr, stepRefusal, stepOf, runOf}
+use Rattle.simulation.specs.Service.{linesBefore, steppedValues, steppedOr, stepRefusal, stepOf, ranBy, runOf}
 use Rattle.simulation.proofs.Answers.{driven}
 use Rattle.simulation.proofs.Runs.{length-run, run-take}
 use Rattle.simulation.proofs.Worked.{length-drivers}
@@ -126,3 +126,18 @@ module _ (file rails holds lines pairs : List ℕ) (count : ℕ) (all : lineCoun
       ∙ ap (λ (us : List ℕ). over (shownBy net us) pairs) (whole-values net rails holds lines count fits) in
       rw e
       (λ i. record { refusal = 0; place = out i; lines = whole-lines net rails holds lines count fits i; pairs = ps i })
+
+-- A run is one step from line 2, told as many lines as there are wherever it is accepted.
+pub one-step : (file rails holds lines pairs : List ℕ) (count : ℕ) →
+    (stepRefusal file rails holds 2 (length lines) (length pairs) ≡ 0 → lineCount (netlistIn file) ≤ 2 + count) →
+    runOf file rails holds lines pairs ≡ ranBy (stepOf file rails holds 2 count lines pairs)
+unfolding runOf stepOf
+one-step file rails holds lines pairs count all = go (stepRefusal file rails holds 2 (length lines) (length pairs)) refl
+  where
+    go : (k : ℕ) → stepRefusal file rails holds 2 (length lines) (length pairs) ≡ k →
+        ranBy (stepOf file rails holds 2 (lineCount (netlistIn file)) lines pairs) ≡ ranBy (stepOf file rails holds 2 count lines pairs)
+    go zero e =
+        ap ranBy
+        (whole-step file rails holds lines pairs (lineCount (netlistIn file)) (omega arith) e
+        ∙ sym (whole-step file rails holds lines pairs count (all e) e))
+    go (suc k) e = rw e

@@ -2,11 +2,12 @@
 use borrow.Author.Needs.{needs}
 use native.Mathlib.Omega.{arith}
 use Prim.Native.Nat.{_-_, _/_, _≤_}
-use mathlib.Core.Path.{_≡_, refl, _∙_}
-use mathlib.Core.List.{flatMap}
-use lib.ListN.{length, length-set}
+use mathlib.Core.Path.{_≡_, refl, sym, _∙_}
+use mathlib.Core.List.{flatMap, map}
+use lib.ListN.{length, length-set, List·getD-map}
 use Rattle.fields.specs.Bounded.{listed}
 use Rattle.simulation.specs.Run.{shownOf}
+use Rattle.simulation.specs.Service.{readBack}
 use Rattle.netlist.proofs.Sound.{PairIn}
 use Rattle.wiring.proofs.Tests.{pairs-at}
 use Rattle.run.proofs.Paired.{paired, pair-more, pairs-done}
@@ -15,7 +16,7 @@ use Rattle.run.proofs.show_pairs.Tie as tie
 
 abbrev Inv-loop : tie.InvT-loop
 Inv-loop outputs lines before pairs₀ j₀ j-end pairs j =
-    (j-end ≡ length outputs / 4) × (j ≤ j-end) × (length pairs ≡ length pairs₀) × (pairs ≡ paired outputs lines pairs₀ before j)
+    (j-end ≡ length outputs / 4) × (j ≤ j-end) × (length pairs ≡ length pairs₀) × (pairs ≡ paired outputs (map readBack lines) pairs₀ before j)
 
 abbrev μ-loop : tie.MeasureT-loop
 μ-loop outputs lines before pairs₀ j₀ j-end pairs j = j-end - j
@@ -42,20 +43,26 @@ add-at c = search needs
 mul-at : tie.Need-mul-at Inv-loop μ-loop
 mul-at c = search needs
 
-cast-pairs : tie.Need-cast-pairs Inv-loop μ-loop
-cast-pairs c = search needs
+cast-read-back : tie.Need-cast-read-back Inv-loop μ-loop
+cast-read-back c = search needs
 
-shared-slice-read-pairs : tie.Need-shared-slice-read-pairs Inv-loop μ-loop
-shared-slice-read-pairs c = omega (arith, within (c .before .before))
+shared-slice-read-read-back : tie.Need-shared-slice-read-read-back Inv-loop μ-loop
+shared-slice-read-read-back c = omega (arith, within (c .before .before))
+
+read-back-requires : tie.Need-read-back-requires Inv-loop μ-loop
+read-back-requires c κs = search needs
 
 slice-write-pairs : tie.Need-slice-write-pairs Inv-loop μ-loop
 slice-write-pairs c = omega arith
 
-cast-pairs-2 : tie.Need-cast-pairs-2 Inv-loop μ-loop
-cast-pairs-2 c = search needs
+cast-read-back-2 : tie.Need-cast-read-back-2 Inv-loop μ-loop
+cast-read-back-2 c = search needs
 
-shared-slice-read-pairs-2 : tie.Need-shared-slice-read-pairs-2 Inv-loop μ-loop
-shared-slice-read-pairs-2 c = omega (arith, within (c .before .before .before .before))
+shared-slice-read-read-back-2 : tie.Need-shared-slice-read-read-back-2 Inv-loop μ-loop
+shared-slice-read-read-back-2 c = omega (arith, within (c .before .before .before .before .before))
+
+read-back-requires-2 : tie.Need-read-back-requires-2 Inv-loop μ-loop
+read-back-requires-2 c κs = search needs
 
 add-pairs : tie.Need-add-pairs Inv-loop μ-loop
 add-pairs c = search needs
@@ -71,7 +78,9 @@ loop-less c = search needs
 
 loop-again : tie.Need-loop-again Inv-loop μ-loop
 loop-again c =
-    let pair = c .before .before .before .before in
+    let pair = c .before .before .before .before .before .before in
+    let off = c .read-back2 .ensures in
+    let on = c .before .before .before .read-back .ensures in
     let loop = pair .before .before in
     let start = loop .before .before .before .before in
     let a = start .args in
@@ -79,7 +88,8 @@ loop-again c =
       inv .0,
       omega arith,
       simp length-set (inv .2),
-      pair-more (a .outputs .now) (a .lines .now) (a .pairs .now) (a .before) (loop .loop .j) (inv .3) (pair .pair-at .ensures) refl,
+      pair-more (a .outputs .now) (map readBack (a .lines .now)) (a .pairs .now) (a .before) (loop .loop .j) (inv .3) (pair .pair-at .ensures) refl
+          (on ∙ sym (List·getD-map readBack (a .lines .now) _ 0)) (off ∙ sym (List·getD-map readBack (a .lines .now) _ 0)),
     )
 
 same-length : tie.Need-same-length Inv-loop μ-loop
@@ -90,7 +100,7 @@ returns c =
     let loop = c .before in
     let start = loop .before .before .before .before in
     let a = start .args in
-    loop .loop .inv .3 ∙ pairs-done (a .outputs .now) (a .lines .now) (a .pairs .now) (a .before) (loop .loop .j) (omega arith)
+    loop .loop .inv .3 ∙ pairs-done (a .outputs .now) (map readBack (a .lines .now)) (a .pairs .now) (a .before) (loop .loop .j) (omega arith)
 
 pub show-pairs-spec : {M : Type 1} → statement M
 show-pairs-spec =
@@ -102,11 +112,13 @@ show-pairs-spec =
     pair-at-requires
     add-at
     mul-at
-    cast-pairs
-    shared-slice-read-pairs
+    cast-read-back
+    shared-slice-read-read-back
+    read-back-requires
     slice-write-pairs
-    cast-pairs-2
-    shared-slice-read-pairs-2
+    cast-read-back-2
+    shared-slice-read-read-back-2
+    read-back-requires-2
     add-pairs
     slice-write-pairs-2
     add-j
