@@ -1,0 +1,3 @@
+pub mod Passing
+pub mod Sites
+pub mod Ordered
