@@ -1,3 +1,7 @@
 pub mod Passing
 pub mod Sites
 pub mod Ordered
+pub mod Below
+pub mod Accepted
+pub mod Stands
+pub mod Promises
