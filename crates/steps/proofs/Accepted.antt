@@ -1,27 +1,26 @@
 -- What an accepted step leaves, and when a step is accepted.
 use native.Mathlib.Omega.{arith}
-use Prim.Native.Nat.{ℕ, zero, suc, _+_, _*_, _-_, _≤_, _<_, min}
+use Prim.Native.Nat.{ℕ, zero, suc, _+_, _-_, _≤_, min}
 use mathlib.Core.Path.{_≡_, refl, sym, ap, ap₂, _∙_}
-use mathlib.Core.Bool.{Bool, true, _&&_, cond}
-use mathlib.Core.List.{List, [], _∷_, _++_}
+use mathlib.Core.Bool.{Bool, _&&_, cond}
+use mathlib.Core.List.{List}
 use borrow.Author.Tests.{le-leb}
-use lib.Dec.{leb}
 use lib.ListN.{length, take, drop, length-take, length-drop}
-use Rattle.fields.specs.Refusals.{firstNo}
 use Rattle.fields.proofs.Refusals.{first-yes, first-next, first-only}
 use Rattle.files.specs.declared.room.Room.the-variants.{Enough, Short}
 use Rattle.files.specs.Room.{roomOf, roomNumber}
-use Rattle.netlist.specs.Netlist.{Netlist, lineCount}
+use Rattle.netlist.specs.Netlist.{lineCount}
 use Rattle.drive.specs.declared.Place.the-variants.{Within, Outside}
 use Rattle.drive.specs.Questions.{railsNumber, holdsNumber, placeOf, placeNumber}
 use Rattle.wiring.specs.Questions.{netlistIn, netlistRefusal}
 use Rattle.simulation.specs.Run.{driversOf}
-use Rattle.simulation.specs.Service.{Stepping, stepRefusal, steppedOr, stepOf}
-use Rattle.simulation.proofs.Whole.{Taken, taken, count-of}
+use Rattle.simulation.specs.Service.{stepRefusal, steppedOr, stepOf}
+use Rattle.simulation.proofs.Whole.{Taken, count-of}
 
 module _ (file rails holds : List ℕ) (place count : ℕ) (lines pairs : List ℕ) where
   -- A step's refusal is that of its questions; with none it leaves what it worked out.
-  pub refusal-is : stepOf file rails holds place count lines pairs .refusal ≡ stepRefusal file rails holds place (length lines) (length pairs)
+  pub refusal-is :
+      stepOf file rails holds place count lines pairs .refusal ≡ stepRefusal file rails holds place (length lines) (length pairs)
   unfolding stepOf
   refusal-is = go (stepRefusal file rails holds place (length lines) (length pairs))
     where

@@ -1,5 +1,6 @@
 pub mod Passing
 pub mod Sites
+pub mod Rising
 pub mod Ordered
 pub mod Below
 pub mod Accepted

@@ -1,42 +1,40 @@
 -- Steps make a run, holds that do not count have no effect, and a run is one step.
 use native.Mathlib.Omega.{arith}
-use Prim.Native.Nat.{ℕ, zero, suc, _+_, _*_, _-_, _≤_, _<_, min}
+use Prim.Native.Nat.{ℕ, zero, suc, _+_, _-_, _≤_, _<_, min}
 use mathlib.Core.Path.{_≡_, refl, sym, ap, subst, _∙_}
-use mathlib.Core.Bool.{Bool, true, cond}
+use mathlib.Core.Bool.{Bool, cond}
 use mathlib.Core.List.{List, [], _∷_, _++_, map}
 use lib.Dec.{eqb}
 use lib.ListN.{length, take, drop, length-append, length-drop, length-map}
 use lib.Seq.{length-take-le, take-all}
 use Rattle.files.specs.Room.{over}
 use Rattle.netlist.specs.declared.Hold.{Hold}
-use Rattle.netlist.specs.Netlist.{Netlist, gateLine, lineCount, holdsOf}
+use Rattle.netlist.specs.Netlist.{gateLine, lineCount, holdsOf}
 use Rattle.netlist.proofs.Files.{holds-back}
 use Rattle.drive.specs.declared.Holds.the-variants.{Ordered, Disordered}
 use Rattle.wiring.specs.Questions.{netlistIn}
 use Rattle.wiring.proofs.Accepted.{accepted}
 use Rattle.simulation.specs.Run.{Driver, held, workOut, holding, driversOf, valuesOf, shownBy}
-use Rattle.simulation.specs.Service.{Stepping, Ran, readBack, linesBefore, steppedValues, steppedOr, stepRefusal, stepOf, ranBy, runOf}
-use Rattle.simulation.proofs.Whole.{Taken, taken, count-of, whole-step}
+use Rattle.simulation.specs.Service.{Stepping, readBack, linesBefore, steppedValues, stepRefusal, stepOf, ranBy, runOf}
+use Rattle.simulation.proofs.Whole.{taken, count-of, whole-step}
 use Rattle.steps.specs.Steps.{passing, countedIn, Steps, holdList}
 use Rattle.steps.specs.Promises.{StepsMakeRun, OthersNoEffect, RunIsOneStep}
 use Rattle.steps.proofs.Sites.{ofLine, ofPin, held-within, held-apart, hold-agree}
 use Rattle.steps.proofs.Ordered.{list-ordered}
 use Rattle.steps.proofs.Below.{below}
 use Rattle.steps.proofs.Accepted.{refusal-is, step-is, accepts, ends-at}
-use Rattle.steps.proofs.Stands.{Stands, steps-stand}
+use Rattle.steps.proofs.Stands.{steps-stand}
 
 pub run-is-one-step : RunIsOneStep
 unfolding runOf stepOf
 run-is-one-step file rails holds lines pairs count all = go (stepRefusal file rails holds 2 (length lines) (length pairs)) refl
   where
-    step : ℕ → ℕ → Stepping
-    step k c = steppedOr k (netlistIn file) rails holds 2 c lines pairs
-
     go : (k : ℕ) → stepRefusal file rails holds 2 (length lines) (length pairs) ≡ k →
         ranBy (stepOf file rails holds 2 (lineCount (netlistIn file)) lines pairs) ≡ ranBy (stepOf file rails holds 2 count lines pairs)
     go zero e =
         ap (λ (s : Stepping). ranBy s)
-        (whole-step file rails holds lines pairs (lineCount (netlistIn file)) (omega arith) e ∙ sym (whole-step file rails holds lines pairs count all e))
+        (whole-step file rails holds lines pairs (lineCount (netlistIn file)) (omega arith) e
+        ∙ sym (whole-step file rails holds lines pairs count all e))
     go (suc k) e = rw e refl
 
 pub others-no-effect : OthersNoEffect
@@ -79,8 +77,7 @@ steps-make-run file rails lines counted pairs s steps end =
     let count = count-of net rails (w .driven) in
     let few = accepted file (w .accepted) .bounds in
     let list = passing ofLine counted ++ passing ofPin counted in
-    let ok = list-ordered (gateLine (net .contacts)) (lineCount net) counted (s .place) (omega (arith, few .most, few .gates)) (w .left .named)
-    (w .left .lined) (w .left .pinned) in
+    let ok = list-ordered (gateLine (net .contacts)) (lineCount net) counted (s .place) (omega (arith, few .most, few .gates)) (w .left .ranked) in
     let yes! = accepts file rails (holdList counted) 2 (length lines) (length pairs) (w .accepted)
     (record {
       driven = w .driven;

@@ -1,10 +1,10 @@
 -- Which holds a site sees: those that name it, in whichever list they stand.
 use native.Mathlib.Omega.{arith}
-use Prim.Native.Nat.{ℕ, zero, suc, _+_, _≤_, _<_}
-use mathlib.Core.Path.{_≡_, refl, sym, ap, ap₂, _∙_}
+use Prim.Native.Nat.{ℕ, _+_, _≤_, _<_}
+use mathlib.Core.Path.{_≡_, refl, ap, ap₂, _∙_}
 use mathlib.Core.Bool.{Bool, true, false, _&&_, cond, not}
 use mathlib.Core.List.{List, [], _∷_, _++_}
-use borrow.Author.Tests.{eqb-true, leb-true, leb-false, ltb-true, le-leb, lt-ltb, ne-eqb}
+use borrow.Author.Tests.{eqb-true, leb-true, leb-false, ltb-true, le-leb, lt-ltb, ne-eqb, not-true}
 use lib.Dec.{eqb, leb, ltb}
 use lib.ListN.{length, length-append}
 use Rattle.fields.proofs.Bounded.{and-left, and-right}
@@ -58,6 +58,12 @@ ofLine h = leb (h .value) 1
 abbrev pub ofPin : Hold → Bool
 ofPin h = not (ofLine h)
 
+pub is-line : (h : Hold) → ofLine h ≡ true → h .value ≤ 1
+is-line h = leb-true (h .value) 1
+
+pub is-pin : (h : Hold) → ofPin h ≡ true → 1 < h .value
+is-pin h e = leb-false (h .value) 1 (not-true (ofLine h) e)
+
 -- A pin sees no hold of a line.
 pin-sees : (hs : List Hold) (x s v : ℕ) → Every (λ (h : Hold). h .value ≤ 1) hs → 1 ≤ s → held hs x s v ≡ v
 unfolding held
@@ -86,7 +92,7 @@ module _ (x s v : ℕ) where
   apart h hs false false e f rest = rw f rest
   apart h hs false true e f rest =
       let at = eqb-true (siteOf h) s (and-right (eqb (h .line) x) (eqb (siteOf h) s) f) in
-      rw f (pin-sees (lines hs) x s (levelOf h) (all-passing ofLine (λ h. h .value ≤ 1) (λ h t. leb-true _ _ t) hs)
+      rw f (pin-sees (lines hs) x s (levelOf h) (all-passing ofLine (λ h. h .value ≤ 1) is-line hs)
       (omega (arith, leb-false (h .value) 1 e)))
 
   both : (hs : List Hold) → held (lines hs) x s (held (pins hs) x s v) ≡ held hs x s v

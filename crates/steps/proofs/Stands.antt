@@ -1,13 +1,11 @@
 -- What steps leave: the values of the lines below their place out, with the holds that counted.
 use native.Mathlib.Omega.{arith}
-use Prim.Native.Nat.{ℕ, zero, suc, _+_, _*_, _-_, _≤_, _<_, min}
+use Prim.Native.Nat.{ℕ, zero, _+_, _*_, _-_, _≤_, min}
 use mathlib.Core.Path.{_≡_, refl, sym, ap, subst, _∙_}
 use mathlib.Core.Bool.{Bool, cond}
-use mathlib.Core.List.{List, [], _∷_, _++_, map}
+use mathlib.Core.List.{List, [], _++_, map}
 use borrow.Author.Tests.{eq-eqb}
-use lib.Dec.{eqb}
 use lib.ListN.{length, take, drop, length-append, length-drop, take-append-drop}
-use Rattle.fields.proofs.Every.{Every, every-weaken}
 use Rattle.files.specs.Room.{over}
 use Rattle.files.proofs.Buffers.{over-over}
 use Rattle.netlist.specs.declared.Hold.{Hold}
@@ -20,9 +18,9 @@ use Rattle.simulation.specs.Service.{Stepping, readBack, linesBefore, steppedVa
 use Rattle.simulation.proofs.Answers.{driven-bits, ordered}
 use Rattle.simulation.proofs.Runs.{run-take}
 use Rattle.simulation.proofs.Whole.{Taken, taken, count-of}
-use Rattle.steps.specs.Steps.{passing, countedIn, Steps, first, next}
-use Rattle.steps.proofs.Sites.{ofLine, ofPin}
-use Rattle.steps.proofs.Ordered.{Before, Rising, rising-list, more-lines, more-pins, more-before}
+use Rattle.steps.specs.Steps.{countedIn, Steps, first, next}
+use Rattle.steps.proofs.Rising.{list-rises}
+use Rattle.steps.proofs.Ordered.{Ranked, none-ranked, ranked-more}
 use Rattle.steps.proofs.Below.{below, length-below, below-more, below-read, below-kept}
 use Rattle.steps.proofs.Accepted.{refusal-is, step-is, sound, ends-at}
 
@@ -33,15 +31,10 @@ module _ (file rails lines : List ℕ) where
   abbrev values : List Hold → ℕ → List ℕ
   values = below rails (net .gates)
 
-  abbrev Rises : ℕ → List Hold → Type 0
-  Rises = Rising (gateLine (net .contacts)) (lineCount net)
-
   -- A place that steps came to, and a line buffer as they left it or, at line 2, as it came.
   pub record Left (counted : List Hold) (place : ℕ) (ls : List ℕ) : Type 0 where
     pub from : 2 ≤ place
-    pub named : Every (Before place) counted
-    pub lined : Rises 1 (passing ofLine counted)
-    pub pinned : Rises 65536 (passing ofPin counted)
+    pub ranked : Ranked (gateLine (net .contacts)) (lineCount net) place counted
     pub back : linesBefore place ls ≡ values counted place
     pub covers : (ws : List ℕ) → place ≤ length ws → over ws ls ≡ over ws lines
     pub size : length ls ≡ length lines
@@ -57,9 +50,9 @@ module _ (file rails lines : List ℕ) where
     pub shown : s .place ≡ lineCount net → s .pairs ≡ over (shownBy net (values counted (s .place))) pairs
 
   start : Left [] 2 lines
-  unfolding passing workOut
+  unfolding workOut
   start =
-      record { from = omega arith; named = tt; lined = tt; pinned = tt; back = refl; covers = λ ws l. refl; size = refl }
+      record { from = omega arith; ranked = none-ranked _ _ 2; back = refl; covers = λ ws l. refl; size = refl }
 
   -- One step more.
   module _ (counted : List Hold) (place : ℕ) (ls : List ℕ) (old : Left counted place ls) (holds : List ℕ) (count : ℕ) (pairs : List ℕ) where
@@ -94,7 +87,7 @@ module _ (file rails lines : List ℕ) where
       upto = omega (arith, lines-of, t .upto)
 
       is : vs ≡ values all out
-      is = read ∙ below-more rails (net .gates) counted place (old .from) upto (old .named) H count out ends
+      is = read ∙ below-more rails (net .gates) counted place (old .from) upto (old .ranked .before) H count out ends
 
       after : 2 ≤ out
       after = omega (arith, old .from)
@@ -118,17 +111,14 @@ module _ (file rails lines : List ℕ) where
           ap (λ (b : List ℕ). over b ls) (front ∙ is)
           ∙ old .covers (values all out) (omega (arith, length-all, t .upto))
 
-      rises : Rises 1 H
-      rises = rising-list _ _ holds (ordered _ _ holds (t .ordered))
-
       stands : Stands all pairs (steppedOr zero net rails holds place count ls pairs)
       stands =
           record {
             left = record {
               from = after;
-              named = more-before _ _ counted place out H (omega (arith, t .upto)) (old .named) rises;
-              lined = more-lines _ _ counted place out H (old .from) (old .named) rises (old .lined);
-              pinned = more-pins _ _ counted place out H (old .from) (old .named) rises (old .pinned);
+              ranked =
+                  ranked-more _ _ counted place out H (old .from) (omega (arith, t .upto)) (old .ranked)
+                  (list-rises _ _ holds (ordered _ _ holds (t .ordered)));
               back = ap (linesBefore out) worked ∙ below-kept rails (net .gates) all out after within lines;
               covers = λ ws l. ap (over ws) worked ∙ over-over ws lines (values all out) (omega (arith, length-all));
               size =
