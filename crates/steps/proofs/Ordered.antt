@@ -46,7 +46,8 @@ module _ (first lines : ℕ) where
           (every-passing p (Before place) (λ h. rankOf h ≤ mark) earlier counted before)
           (rising-after first lines 1 mark (passing p new)
           (rising-passing first lines p 1 new (rising-passing first lines (inside place to) 1 holds rises))
-          (every-passing p (λ (h : Hold). (place ≤ h .line) × (h .line < to)) (λ h. mark < rankOf h) later new (counted-within place to holds))))
+          (every-passing p (λ (h : Hold). (place ≤ h .line) × (h .line < to)) (λ h. mark < rankOf h) later new
+          (counted-within place to holds))))
 
     more-lines : Rises 1 (passing ofLine counted) → Rises 1 (passing ofLine (counted ++ new))
     more-lines =
@@ -73,9 +74,11 @@ module _ (first lines : ℕ) where
         pinned = more-pins counted place to holds from (r .before) rises (r .pinned);
       }
 
-  pub list-ordered : (counted : List Hold) (place : ℕ) → place ≤ 65536 → Ranked place counted → areOrdered first lines (holdList counted) ≡ true
+  pub list-ordered : (counted : List Hold) (place : ℕ) → place ≤ 65536 → Ranked place counted →
+      areOrdered first lines (holdList counted) ≡ true
   list-ordered counted place l r =
       are-ordered first lines (passing ofLine counted ++ passing ofPin counted)
       (rising-append first lines 1 65536 (passing ofLine counted) (passing ofPin counted) (omega arith) (r .lined)
-      (every-passing ofLine (Before place) (λ h. rankOf h ≤ 65536) (λ h t b. omega (arith, rank-line h (is-line h t), b .0)) counted (r .before))
+      (every-passing ofLine (Before place) (λ h. rankOf h ≤ 65536) (λ h t b. omega (arith, rank-line h (is-line h t), b .0)) counted
+      (r .before))
       (r .pinned))

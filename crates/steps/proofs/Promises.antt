@@ -17,7 +17,7 @@ use Rattle.wiring.proofs.Accepted.{accepted}
 use Rattle.simulation.specs.Run.{Driver, held, workOut, holding, driversOf, valuesOf, shownBy}
 use Rattle.simulation.specs.Service.{Stepping, readBack, linesBefore, steppedValues, stepRefusal, stepOf, ranBy, runOf}
 use Rattle.simulation.proofs.Whole.{taken, count-of, whole-step}
-use Rattle.steps.specs.Steps.{passing, countedIn, Steps, holdList}
+use Rattle.steps.specs.Steps.{passing, countedIn, holdList}
 use Rattle.steps.specs.Promises.{StepsMakeRun, OthersNoEffect, RunIsOneStep}
 use Rattle.steps.proofs.Sites.{ofLine, ofPin, held-within, held-apart, hold-agree}
 use Rattle.steps.proofs.Ordered.{list-ordered}
@@ -77,7 +77,8 @@ steps-make-run file rails lines counted pairs s steps end =
     let count = count-of net rails (w .driven) in
     let few = accepted file (w .accepted) .bounds in
     let list = passing ofLine counted ++ passing ofPin counted in
-    let ok = list-ordered (gateLine (net .contacts)) (lineCount net) counted (s .place) (omega (arith, few .most, few .gates)) (w .left .ranked) in
+    let ok = list-ordered (gateLine (net .contacts)) (lineCount net) counted (s .place)
+    (omega (arith, few .most, few .gates)) (w .left .ranked) in
     let yes! = accepts file rails (holdList counted) 2 (length lines) (length pairs) (w .accepted)
     (record {
       driven = w .driven;

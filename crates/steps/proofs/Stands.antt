@@ -49,6 +49,7 @@ module _ (file rails lines : List ℕ) where
     pub worked : s .lines ≡ over (values counted (s .place)) lines
     pub shown : s .place ≡ lineCount net → s .pairs ≡ over (shownBy net (values counted (s .place))) pairs
 
+  -- Before the first step.
   start : Left [] 2 lines
   unfolding workOut
   start =
@@ -59,7 +60,7 @@ module _ (file rails lines : List ℕ) where
     abbrev H : List Hold
     H = holdsOf holds
 
-    module _ (sd : netlistRefusal file ≡ 0) (t : Taken net rails holds place (length ls) (length pairs)) where
+    module _ (ok : netlistRefusal file ≡ 0) (t : Taken net rails holds place (length ls) (length pairs)) where
       abbrev out : ℕ
       out = min (place + count) (lineCount net)
 
@@ -125,7 +126,7 @@ module _ (file rails lines : List ℕ) where
                   ap length worked ∙ length-append (values all out) (drop (length (values all out)) lines)
                   ∙ omega (arith, length-drop (length (values all out)) lines, length-all, t .room, old .size);
             };
-            accepted = sd;
+            accepted = ok;
             driven = t .driven;
             room = omega (arith, t .room, old .size);
             paired = t .paired;
