@@ -7,25 +7,19 @@ use mathlib.Core.Path.{_≡_, refl, sym, ap, _∙_}
 use mathlib.Core.Bool.{Bool, true, _&&_, cond}
 use mathlib.Core.List.{List}
 use mathlib.Core.Logic.{⊎-elim, by-cases}
-use borrow.Author.Tests.{eq-eqb, ne-eqb, le-leb, lt-leb, lt-ltb, le-ltb}
+use borrow.Author.Tests.{eq-eqb, ne-eqb, lt-ltb, le-ltb}
 use lib.Dec.{eqb}
 use lib.ListN.{length}
 use Rattle.fields.specs.Bounded.{listed}
 use Rattle.netlist.specs.declared.Hold.{Hold}
 use Rattle.netlist.specs.Netlist.{holdAt, holdsOf, siteOf, levelOf}
 use Rattle.drive.specs.Questions.{rankOf, areHolds}
-use Rattle.drive.proofs.Tests.{holds-at}
+use Rattle.drive.proofs.Tests.{rank-line, rank-pin, holds-at}
 use Rattle.simulation.specs.Run.{held}
 use Rattle.evaluation.specs.Inner.Walk.{siteRank, rankAt, IsNext, Sorted, Behind, Ahead, Looks}
 use Rattle.evaluation.specs.declared.ranks.Looked.{Looked}
 
--- Where a hold is a line's or a pin's, its rank tells its line and site.
-rank-line : (h : Hold) → h .value ≤ 1 → rankOf h ≡ h .line
-rank-line h l = ap (λ (b : Bool). cond b (h .line) (65536 + 2 * h .line + siteOf h)) (le-leb (h .value) 1 l)
-
-rank-pin : (h : Hold) → 1 < h .value → rankOf h ≡ 65536 + 2 * h .line + siteOf h
-rank-pin h l = ap (λ (b : Bool). cond b (h .line) (65536 + 2 * h .line + siteOf h)) (lt-leb (h .value) 1 l)
-
+-- A hold's rank tells its line and site.
 rank-tells : (h : Hold) (line site : ℕ) → h .value ≤ 5 → h .line < 65536 → line < 65536 → site ≤ 2 → rankOf h ≡ siteRank line site →
     (h .line ≡ line) × (siteOf h ≡ site)
 rank-tells h line zero v l k s e =

@@ -1,4 +1,4 @@
--- The bytes of a netlist's file: they name its gates and outputs, its fields are its parts.
+-- The bytes of gates, outputs and holds name them; the fields of a netlist's file are its parts.
 use native.Mathlib.Nat.{div-add-mod'}
 use native.Mathlib.Omega.{arith}
 use Prim.Native.Nat.{ℕ, _+_, _*_, _<_}
@@ -13,9 +13,10 @@ use Rattle.fields.proofs.Notes.{Plain, of-encoded}
 use Rattle.fields.proofs.Parts.{length-parts, part-at}
 use Rattle.netlist.specs.declared.Gate.{Gate}
 use Rattle.netlist.specs.declared.Pair.{Pair}
-use Rattle.netlist.specs.Netlist.{Netlist, gateAt, pairAt, gatesOf, pairsOf, gateBytes, pairBytes, lampField, fileWith, fileOf}
+use Rattle.netlist.specs.declared.Hold.{Hold}
+use Rattle.netlist.specs.Netlist.{Netlist, gateAt, pairAt, holdAt, gatesOf, pairsOf, holdsOf, gateBytes, pairBytes, holdBytes, lampField, fileWith, fileOf}
 use Rattle.netlist.specs.Inner.Lengths.{lampLength}
-use Rattle.netlist.proofs.Lists.{length-gates, getD-gates, length-pairs, getD-pairs}
+use Rattle.netlist.proofs.Lists.{length-gates, getD-gates, length-pairs, getD-pairs, length-holds, getD-holds}
 use Rattle.netlist.proofs.Written.{length-file}
 
 -- The gates' bytes.
@@ -74,6 +75,33 @@ pairs-back ps =
     let b = length-pair-bytes ps in
     let l : length (pairsOf v) ≡ length ps = omega (arith, length-pairs v) in
     ext-getD no-pair (pairsOf v) ps l (λ j h. getD-pairs v j no-pair (omega arith) ∙ pair-back ps j)
+
+-- The holds' bytes.
+pub length-hold-bytes : (hs : List Hold) → length (flatMap holdBytes hs) ≡ 3 * length hs
+length-hold-bytes hs = length-parts holdBytes 3 (λ h. refl) hs ∙ omega arith
+
+abbrev no-hold : Hold
+no-hold = record { line = 0; value = 0 }
+
+hold-byte : (hs : List Hold) (i k j : ℕ) → k < 3 → j ≡ i * 3 + k →
+    getD (flatMap holdBytes hs) j 0 ≡ getD (holdBytes (getD hs i no-hold)) k 0
+hold-byte hs i k j h e = rw e (part-at holdBytes 3 (λ h. refl) no-hold (λ i l. getD-replicate 3 i 0 0 l) hs i k h)
+
+hold-back : (hs : List Hold) (i : ℕ) → holdAt (flatMap holdBytes hs) i ≡ getD hs i no-hold
+hold-back hs i =
+    let h = getD hs i no-hold in
+    let at = hold-byte hs i in
+    let line : holdAt (flatMap holdBytes hs) i .line ≡ h .line =
+    ap₂ numberOf (at 0 (3 * i) (omega arith) (omega arith)) (at 1 (3 * i + 1) (omega arith) (omega arith)) ∙ div-add-mod' (h .line) 256 in
+    let value : holdAt (flatMap holdBytes hs) i .value ≡ h .value = at 2 (3 * i + 2) (omega arith) (omega arith) in
+    λ j. record { line = line j; value = value j }
+
+pub holds-back : (hs : List Hold) → holdsOf (flatMap holdBytes hs) ≡ hs
+holds-back hs =
+    let v = flatMap holdBytes hs in
+    let b = length-hold-bytes hs in
+    let l : length (holdsOf v) ≡ length hs = omega (arith, length-holds v) in
+    ext-getD no-hold (holdsOf v) hs l (λ i h. getD-holds v i no-hold (omega arith) ∙ hold-back hs i)
 
 -- The lamp's field.
 lamp-plain : (v : List ℕ) → Every Plain (lampField v)

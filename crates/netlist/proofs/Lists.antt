@@ -6,6 +6,7 @@ use mathlib.Core.List.{List}
 use lib.ListN.{length, getD}
 use Rattle.netlist.specs.declared.Gate.{Gate}
 use Rattle.netlist.specs.declared.Pair.{Pair}
+use Rattle.netlist.specs.declared.Hold.{Hold}
 use Rattle.netlist.specs.Netlist.{gateAt, pairAt, holdAt, gatesOf, pairsOf, holdsOf}
 use Rattle.fields.proofs.Listed.{length-listed, getD-listed}
 
@@ -29,3 +30,7 @@ module _ (v : List ℕ) where
   pub length-holds : length (holdsOf v) ≡ length v / 3
   unfolding holdsOf
   length-holds = length-listed (holdAt v) (length v / 3) 0
+
+  pub getD-holds : (i : ℕ) (d : Hold) → i < length v / 3 → getD (holdsOf v) i d ≡ holdAt v i
+  unfolding holdsOf
+  getD-holds i d h = getD-listed (holdAt v) (length v / 3) 0 i d h ∙ ap (holdAt v) (omega arith)

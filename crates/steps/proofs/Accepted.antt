@@ -1,0 +1,61 @@
+-- What an accepted step leaves, and when a step is accepted.
+use native.Mathlib.Omega.{arith}
+use Prim.Native.Nat.{ℕ, zero, suc, _+_, _-_, _≤_, min}
+use mathlib.Core.Path.{_≡_, refl, sym, ap, ap₂, _∙_}
+use mathlib.Core.Bool.{Bool, _&&_, cond}
+use mathlib.Core.List.{List}
+use borrow.Author.Tests.{le-leb}
+use lib.ListN.{length, take, drop, length-take, length-drop}
+use Rattle.fields.proofs.Refusals.{first-yes, first-next, first-only}
+use Rattle.files.specs.declared.room.Room.the-variants.{Enough, Short}
+use Rattle.files.specs.Room.{roomOf, roomNumber}
+use Rattle.netlist.specs.Netlist.{lineCount}
+use Rattle.drive.specs.declared.Place.the-variants.{Within, Outside}
+use Rattle.drive.specs.Questions.{railsNumber, holdsNumber, placeOf, placeNumber}
+use Rattle.wiring.specs.Questions.{netlistIn, netlistRefusal}
+use Rattle.simulation.specs.Run.{driversOf}
+use Rattle.simulation.specs.Service.{stepRefusal, steppedOr, stepOf}
+use Rattle.simulation.proofs.Whole.{Taken, count-of}
+
+module _ (file rails holds : List ℕ) (place count : ℕ) (lines pairs : List ℕ) where
+  -- A step's refusal is that of its questions; with none it leaves what it worked out.
+  pub refusal-is :
+      stepOf file rails holds place count lines pairs .refusal ≡ stepRefusal file rails holds place (length lines) (length pairs)
+  unfolding stepOf
+  refusal-is = go (stepRefusal file rails holds place (length lines) (length pairs))
+    where
+      go : (k : ℕ) → steppedOr k (netlistIn file) rails holds place count lines pairs .refusal ≡ k
+      go zero = refl
+      go (suc k) = refl
+
+  pub step-is : stepOf file rails holds place count lines pairs .refusal ≡ 0 →
+      stepOf file rails holds place count lines pairs ≡ steppedOr zero (netlistIn file) rails holds place count lines pairs
+  unfolding stepOf
+  step-is e = ap (λ (k : ℕ). steppedOr k (netlistIn file) rails holds place count lines pairs) (sym refusal-is ∙ e)
+
+module _ (file rails holds : List ℕ) (place lines pairs : ℕ) where
+  pub sound : stepRefusal file rails holds place lines pairs ≡ 0 → netlistRefusal file ≡ 0
+  unfolding stepRefusal
+  sound e = first-yes _ _ e .0
+
+  pub accepts : netlistRefusal file ≡ 0 → Taken (netlistIn file) rails holds place lines pairs →
+      stepRefusal file rails holds place lines pairs ≡ 0
+  unfolding stepRefusal
+  accepts s t =
+      let net = netlistIn file in
+      let within : placeNumber (placeOf (lineCount net) place) ≡ 0 =
+      ap (λ (b : Bool). placeNumber (cond b Within Outside)) (ap₂ _&&_ (le-leb _ _ (t .from)) (le-leb _ _ (t .upto))) in
+      first-next _ _ s ∙ first-next _ _ (ap railsNumber (t .driven)) ∙ first-next _ _ (ap holdsNumber (t .ordered)) ∙ first-next _ _ within
+      ∙ first-next _ _ (room (lineCount net) lines (t .room)) ∙ first-only _ ∙ room _ pairs (t .paired)
+    where
+      room : (wanted lent : ℕ) → wanted ≤ lent → roomNumber (roomOf wanted lent) ≡ 0
+      room wanted lent l = ap (λ (b : Bool). roomNumber (cond b Enough Short)) (le-leb wanted lent l)
+
+  -- Where it ends.
+  pub ends-at : (count : ℕ) → Taken (netlistIn file) rails holds place lines pairs →
+      let net = netlistIn file in
+      min (place + count) (lineCount net) ≡ place + length (take count (drop (place - 2) (driversOf rails (net .gates))))
+  ends-at count t =
+      let net = netlistIn file in
+      let ds = driversOf rails (net .gates) in
+      omega (arith, count-of net rails (t .driven), length-take count (drop (place - 2) ds), length-drop (place - 2) ds, t .from, t .upto)
