@@ -10,9 +10,10 @@ use lib.ListN.{length}
 use Rattle.files.proofs.Writing.{refused-writing}
 use Rattle.table.specs.Table.{diagramIn, tableRefusal, readRefusal, readingOr, readingOf}
 use Rattle.netlist.specs.declared.Hold.{Hold}
-use Rattle.netlist.specs.Netlist.{Netlist, holdAt, fileOf}
+use Rattle.netlist.specs.Netlist.{Netlist, holdAt, fileOf, lineCount}
 use Rattle.wiring.specs.Questions.{netlistIn, netlistRefusal}
-use Rattle.simulation.specs.Service.{runRefusal, ranOr, runOf}
+use Rattle.simulation.specs.Service.{stepRefusal, steppedOr, stepOf, runOf}
+use Rattle.steps.proofs.Promises.{steps-make-run, others-no-effect, run-is-one-step}
 use Rattle.sheet.specs.Sheet.{sheetOf}
 use Rattle.sheet.specs.Service.{sheetingOf}
 use Rattle.table.proofs.Written.{table-without-notes}
@@ -54,10 +55,11 @@ read-refused : (r : ℕ) (d : Diagram) (a k : ℕ) → readingOr r d a .refusal 
 read-refused zero d a k e = absurd (omega arith)
 read-refused (suc r) d a k e = refl
 
-run-refused : (r : ℕ) (net : Netlist) (rails holds lines pairs : List ℕ) (k : ℕ) → ranOr r net rails holds lines pairs .refusal ≡ suc k →
-    (ranOr r net rails holds lines pairs .lines ≡ lines) × (ranOr r net rails holds lines pairs .pairs ≡ pairs)
-run-refused zero net rails holds lines pairs k e = absurd (omega arith)
-run-refused (suc r) net rails holds lines pairs k e = (refl, refl)
+step-refused : (r : ℕ) (net : Netlist) (rails holds : List ℕ) (place count : ℕ) (lines pairs : List ℕ) (k : ℕ) →
+    let s = steppedOr r net rails holds place count lines pairs in
+    s .refusal ≡ suc k → (s .place ≡ 0) × (s .lines ≡ lines) × (s .pairs ≡ pairs)
+step-refused zero net rails holds place count lines pairs k e = absurd (omega arith)
+step-refused (suc r) net rails holds place count lines pairs k e = (refl, refl, refl)
 
 probe-refused : (r : ℕ) (net : Netlist) (hold : Hold) (buffer : List ℕ) (k : ℕ) → probingOr r net hold buffer .answer .refusal ≡ suc k →
     let p = probingOr r net hold buffer in
@@ -66,15 +68,20 @@ probe-refused zero net hold buffer k e = absurd (let z = sym (refusal-by net hol
 probe-refused (suc r) net hold buffer k e = (refl, refl, refl, refl)
 
 refusals : Refusals
-unfolding checkedOf buildingOf lampBuildingOf readingOf runOf probingOf probeOf sheetingOf fromDrawingOf fromRulesOf
+unfolding checkedOf buildingOf lampBuildingOf readingOf runOf stepOf probingOf probeOf sheetingOf fromDrawingOf fromRulesOf
 refusals =
     record {
       check = λ table. check-refused (tableRefusal table) (tableBoard table);
       build = λ table buffer. refused-writing (tableRefusal table) (fileOf (tableBoard table)) buffer;
       buildWithLamp = λ table buffer. refused-writing (tableRefusal table) (fileOf (lampBoard table)) buffer;
       readOff = λ table a. read-refused (readRefusal table a) (diagramIn table) a;
-      run = λ netlist rails holds lines pairs.
-          run-refused (runRefusal netlist rails holds (length lines) (length pairs)) (netlistIn netlist) rails holds lines pairs;
+      run = λ netlist rails holds lines pairs k e.
+          let (_, ls, ps) =
+          step-refused (stepRefusal netlist rails holds 2 (length lines) (length pairs)) (netlistIn netlist) rails holds 2
+          (lineCount (netlistIn netlist)) lines pairs k e in
+          (ls, ps);
+      step = λ netlist rails holds place count lines pairs.
+          step-refused (stepRefusal netlist rails holds place (length lines) (length pairs)) (netlistIn netlist) rails holds place count lines pairs;
       probe = λ table hold buffer.
           probe-refused (probeRefusal table hold (length buffer)) (tableBoard table) (holdAt hold 0) buffer;
       sheet = λ netlist buffer. refused-writing (netlistRefusal netlist) (sheetOf (netlistIn netlist)) buffer;
@@ -109,6 +116,7 @@ demands =
             lowPinsSeen = low-pins-seen;
             hiddenPins = hidden-pins;
           };
+      steps = record { makeRun = steps-make-run; others = others-no-effect; oneStep = run-is-one-step };
       spare = record { gatesRead = gates-read; contacts = spare-contacts; unseen = unread-unseen };
       sheets = record { determines = sheet-determines; length = sheet-length };
       drawings =

@@ -6,7 +6,7 @@ use Rattle.fields.specs.Fields.{Fields, fieldsOf, withoutNotes}
 use Rattle.fields.proofs.Notes.{notes-passed-over}
 use Rattle.table.specs.Table.{diagramOf, diagramIn, fieldsRefusal, tableRefusal, readRefusal, readingOf}
 use Rattle.wiring.specs.Questions.{netlistOf, netlistIn, netlistRefusal}
-use Rattle.simulation.specs.Service.{runRefusal, runOf}
+use Rattle.simulation.specs.Service.{stepRefusal, stepOf, runOf}
 use Rattle.sheet.specs.Service.{sheetingOf}
 use Rattle.truths.specs.Service.{drawingRefusal, fromDrawingOf}
 use Rattle.coverage.specs.Service.{rulesRefusal, fromRulesOf}
@@ -50,8 +50,13 @@ module _ (a b : List ℕ) (e : fieldsOf a ≡ fieldsOf b) where
   unfolding probeOf probingOf probeRefusal
   probed hold buffer = cc (tables, diagrams)
 
+  stepped : (rails holds : List ℕ) (place count : ℕ) (lines pairs : List ℕ) →
+      stepOf a rails holds place count lines pairs ≡ stepOf b rails holds place count lines pairs
+  unfolding stepOf stepRefusal
+  stepped rails holds place count lines pairs = cc (netlist-refusals, netlists)
+
   ran : (rails holds lines pairs : List ℕ) → runOf a rails holds lines pairs ≡ runOf b rails holds lines pairs
-  unfolding runOf runRefusal
+  unfolding runOf stepOf stepRefusal
   ran rails holds lines pairs = cc (netlist-refusals, netlists)
 
   printed : (buffer : List ℕ) → sheetingOf a buffer ≡ sheetingOf b buffer
@@ -75,6 +80,7 @@ same-answers =
       readOff = λ file w. read file (withoutNotes file) (same file w);
       probe = λ file w. probed file (withoutNotes file) (same file w);
       run = λ file w. ran file (withoutNotes file) (same file w);
+      step = λ file w. stepped file (withoutNotes file) (same file w);
       sheet = λ file w. printed file (withoutNotes file) (same file w);
       fromDrawing = λ file w. drawn file (withoutNotes file) (same file w);
       fromRules = λ file w. ruled file (withoutNotes file) (same file w);

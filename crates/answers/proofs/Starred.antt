@@ -12,7 +12,7 @@ use Rattle.netlist.specs.Netlist.{anyOf, isRead, gatesOf, pairsOf, holdsOf, fil
 use Rattle.simulation.specs.Run.{drive, workOut, held, valuesOf, shownOf}
 use Rattle.wiring.specs.Questions.{formOf, isSound, netlistOf, netlistRefusal}
 use Rattle.drive.specs.Questions.{areOrdered}
-use Rattle.simulation.specs.Service.{runRefusal, runOf}
+use Rattle.simulation.specs.Service.{stepRefusal, stepOf, runOf}
 use Rattle.table.specs.Encode.{bytesOf}
 use Rattle.functions.specs.Functions.{same, tree, place, firsts, levelOf, isNarrow}
 use Rattle.drawing.specs.Drawing.{isAbove, isDrawing, next, lead}
@@ -36,6 +36,6 @@ use Rattle.answers.specs.Answers.{probeOf}
 use mathlib.Core.List.{flatMap}
 
 pub all-starred : AllHold starred
-unfolding all any rawStepAt valueOf rawFieldsWithin rawFieldsFrom butNotes fieldsFrom fieldsOf encoded contactsIn firstNo width edgeAt root inputOf inRange distinct mention mentions brought numbered outputsIn areLevels padded diagramOf fieldsRefusal diagramRefusal tableRefusal listed anyOf isRead gatesOf pairsOf holdsOf fileOf fileWith drive workOut held valuesOf shownOf formOf isSound areOrdered netlistOf netlistRefusal runRefusal runOf _>>=_ sequence cutWithin cut term blocks.tree joined productEntry product levelMatrix block wholeBlock boardOf depthsOf depthOf codeRails checkedOf writingOf buildingOf lampBuildingOf join lampOf withLamp stuckAt noCode betrays isSeen leastFrom probeRefusal probingOf probeOf decimal inFive rowText numberedRows rowsFrom sheetOf sheetingOf flatMap bytesOf same tree place firsts levelOf isNarrow isAbove isDrawing next lead drawing.formOf drawingRefusal fromDrawingOf rulesheet.formOf rulesRefusal fromRulesOf
+unfolding all any rawStepAt valueOf rawFieldsWithin rawFieldsFrom butNotes fieldsFrom fieldsOf encoded contactsIn firstNo width edgeAt root inputOf inRange distinct mention mentions brought numbered outputsIn areLevels padded diagramOf fieldsRefusal diagramRefusal tableRefusal listed anyOf isRead gatesOf pairsOf holdsOf fileOf fileWith drive workOut held valuesOf shownOf formOf isSound areOrdered netlistOf netlistRefusal stepRefusal stepOf runOf _>>=_ sequence cutWithin cut term blocks.tree joined productEntry product levelMatrix block wholeBlock boardOf depthsOf depthOf codeRails checkedOf writingOf buildingOf lampBuildingOf join lampOf withLamp stuckAt noCode betrays isSeen leastFrom probeRefusal probingOf probeOf decimal inFive rowText numberedRows rowsFrom sheetOf sheetingOf flatMap bytesOf same tree place firsts levelOf isNarrow isAbove isDrawing next lead drawing.formOf drawingRefusal fromDrawingOf rulesheet.formOf rulesRefusal fromRulesOf
 all-starred =
-    (refl, ((refl, refl, refl), ((refl, refl), ((refl, refl), (refl, (refl, ((refl, refl), (refl, ((refl, refl, refl), (refl, (refl, (refl, ((refl, refl, refl), (refl, (refl, (refl, (refl, ((refl, refl, refl), ((refl, refl, refl), ((refl, refl, refl), ((refl, refl, refl), ((refl, refl, refl), ((refl, refl, refl), ((refl, refl, refl), (refl, ((refl, refl, refl), ((refl, refl, refl), ((refl, refl, refl), ((refl, refl, refl), ((refl, refl), ((refl, refl), ((refl, refl, refl), (refl, ((refl, refl, refl), (refl, (refl, (refl, ((refl, refl), ((refl, refl, refl), ((refl, refl, refl), ((refl, refl, refl), ((refl, refl, refl), ((refl, refl, refl), ((refl, refl, refl), ((refl, refl, refl), ((refl, refl, refl), ((refl, refl, refl), ((refl, refl, refl), ((refl, refl, refl), ((refl, refl, refl), ((refl, refl, refl), ((refl, refl, refl), ((refl, refl, refl), ((refl, refl, refl), ((refl, refl), ((refl, refl), (refl, ((refl, refl), ((refl, refl), ((refl, refl), ((refl, refl), (refl, (refl, (refl, (refl, (refl, (refl, tt)))))))))))))))))))))))))))))))))))))))))))))))))))))))))))))))))))
+    (refl, ((refl, refl, refl), ((refl, refl), ((refl, refl), (refl, (refl, ((refl, refl), (refl, ((refl, refl, refl), (refl, (refl, (refl, ((refl, refl, refl), (refl, (refl, (refl, (refl, ((refl, refl, refl), ((refl, refl, refl), ((refl, refl, refl), ((refl, refl, refl), ((refl, refl, refl), ((refl, refl, refl), ((refl, refl, refl), (refl, ((refl, refl, refl), ((refl, refl, refl), ((refl, refl, refl), ((refl, refl, refl), ((refl, refl), ((refl, refl), ((refl, refl, refl), (refl, ((refl, refl, refl), (refl, (refl, (refl, ((refl, refl), ((refl, refl, refl), ((refl, refl, refl), ((refl, refl, refl), ((refl, refl, refl), ((refl, refl, refl), ((refl, refl, refl), ((refl, refl, refl), ((refl, refl, refl), ((refl, refl, refl), ((refl, refl, refl), ((refl, refl, refl), ((refl, refl, refl), ((refl, refl, refl), ((refl, refl, refl), ((refl, refl, refl), ((refl, refl, refl), ((refl, refl), ((refl, refl), (refl, ((refl, refl), ((refl, refl), ((refl, refl), ((refl, refl), (refl, (refl, (refl, (refl, (refl, (refl, (refl, (refl, ((refl, refl), (refl, (refl, (refl, (refl, (refl, (refl, (refl, (refl, tt))))))))))))))))))))))))))))))))))))))))))))))))))))))))))))))))))))))))))))))

@@ -1,9 +1,9 @@
 -- The three demands and what was promised since, on the definitions that the services' contracts cite.
 --
 -- The services return and write just what these definitions say, for every byte string (the contracts of crates/pilgodur/src/lib.rt):
--- check `checkedOf`, build `buildingOf`, build with lamp `lampBuildingOf`, read-off `readingOf`, run `runOf`, probe `probeOf`, sheet
--- `sheetingOf`, from-drawing `fromDrawingOf`, from-rules `fromRulesOf`. That each call is answered, and that nothing else is written, is
--- what the proof of every function's contract says.
+-- check `checkedOf`, build `buildingOf`, build with lamp `lampBuildingOf`, read-off `readingOf`, run `runOf`, step `stepOf`, probe
+-- `probeOf`, sheet `sheetingOf`, from-drawing `fromDrawingOf`, from-rules `fromRulesOf`. That each call is answered, and that nothing else
+-- is written, is what the proof of every function's contract says.
 use Prim.Native.Nat.{ℕ, suc}
 use mathlib.Core.Path.{_≡_}
 use mathlib.Core.List.{List}
@@ -12,7 +12,8 @@ use Rattle.twins.specs.Promises.{FirstTwins, NoTwins, PairsCounted, AllPairs}
 use Rattle.table.specs.Promises.{TableWithoutNotes}
 use Rattle.table.specs.Table.{readingOf}
 use Rattle.wiring.specs.Promises.{NetlistWithoutNotes}
-use Rattle.simulation.specs.Service.{runOf}
+use Rattle.simulation.specs.Service.{runOf, stepOf}
+use Rattle.steps.specs.Promises.{StepsMakeRun, OthersNoEffect, RunIsOneStep}
 use Rattle.sheet.specs.Service.{sheetingOf}
 use Rattle.sheet.specs.Promises.{SheetDetermines, SheetLength}
 use Rattle.truths.specs.Service.{fromDrawingOf}
@@ -42,6 +43,9 @@ pub record Refusals : Type 0 where
   pub readOff : (table : List ℕ) (a k : ℕ) → readingOf table a .refusal ≡ suc k → readingOf table a .word ≡ 0
   pub run : (netlist rails holds lines pairs : List ℕ) (k : ℕ) → runOf netlist rails holds lines pairs .refusal ≡ suc k →
       (runOf netlist rails holds lines pairs .lines ≡ lines) × (runOf netlist rails holds lines pairs .pairs ≡ pairs)
+  pub step : (netlist rails holds : List ℕ) (place count : ℕ) (lines pairs : List ℕ) (k : ℕ) →
+      let s = stepOf netlist rails holds place count lines pairs in
+      s .refusal ≡ suc k → (s .place ≡ 0) × (s .lines ≡ lines) × (s .pairs ≡ pairs)
   pub probe : (table hold buffer : List ℕ) (k : ℕ) → probeOf table hold buffer .answer .refusal ≡ suc k →
       (probeOf table hold buffer .answer .input ≡ 0) × (probeOf table hold buffer .answer .output ≡ 0)
       × (probeOf table hold buffer .answer .way ≡ 0) × (probeOf table hold buffer .buffer ≡ buffer)
@@ -79,6 +83,13 @@ pub record StuckPins : Type 0 where
   pub fifteen : FifteenForLines
   pub lowPinsSeen : LowPinsSeen
   pub hiddenPins : HiddenPins
+
+-- Steps. Accepted ones that start at line 2 and hand the place and the line buffer on end as one run with just the holds that counted; a
+-- hold that does not count has no effect; a run is one step.
+pub record RunsInSteps : Type 0 where
+  pub makeRun : StepsMakeRun
+  pub others : OthersNoEffect
+  pub oneStep : RunIsOneStep
 
 -- Spare contacts. Every gate of a board is read; both rails of a contact are, or neither, and neither exactly if no output's value
 -- depends on the contact; a line that nothing reads stays unseen at every code input.
@@ -149,6 +160,7 @@ pub record Demands : Type 0 where
   pub second : Netlists
   pub third : StuckLines
   pub pins : StuckPins
+  pub steps : RunsInSteps
   pub spare : SpareLines
   pub sheets : Sheets
   pub drawings : Drawings

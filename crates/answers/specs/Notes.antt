@@ -5,7 +5,7 @@ use mathlib.Core.List.{List}
 use Rattle.fields.specs.declared.Framing.the-variants.{Whole}
 use Rattle.fields.specs.Fields.{fieldsOf, withoutNotes}
 use Rattle.table.specs.Table.{readingOf}
-use Rattle.simulation.specs.Service.{runOf}
+use Rattle.simulation.specs.Service.{runOf, stepOf}
 use Rattle.sheet.specs.Service.{sheetingOf}
 use Rattle.truths.specs.Service.{fromDrawingOf}
 use Rattle.coverage.specs.Service.{fromRulesOf}
@@ -27,6 +27,8 @@ pub record SameAnswers : Type 0 where
       probeOf table hold buffer ≡ probeOf (withoutNotes table) hold buffer
   pub run : (netlist : List ℕ) → IsWhole netlist → (rails holds lines pairs : List ℕ) →
       runOf netlist rails holds lines pairs ≡ runOf (withoutNotes netlist) rails holds lines pairs
+  pub step : (netlist : List ℕ) → IsWhole netlist → (rails holds : List ℕ) (place count : ℕ) (lines pairs : List ℕ) →
+      stepOf netlist rails holds place count lines pairs ≡ stepOf (withoutNotes netlist) rails holds place count lines pairs
   pub sheet : (netlist : List ℕ) → IsWhole netlist → (buffer : List ℕ) →
       sheetingOf netlist buffer ≡ sheetingOf (withoutNotes netlist) buffer
   pub fromDrawing : (drawing : List ℕ) → IsWhole drawing → (buffer : List ℕ) →

@@ -4,7 +4,7 @@ use mathlib.Core.Path.{_≡_}
 use Prim.Native.String.{String}
 use mathlib.Core.List.{List, [], _∷_, _++_, flatMap}
 use lib.ListN.{length, replicate}
-use Rattle.simulation.specs.Service.{runOf}
+use Rattle.simulation.specs.Service.{runOf, stepOf}
 use Rattle.sheet.specs.Sheet.{ascii}
 use Rattle.sheet.specs.Service.{sheetingOf}
 use Rattle.truths.specs.Service.{fromDrawingOf}
@@ -13,7 +13,8 @@ use Rattle.synthesis.specs.Service.{checkedOf, buildingOf, lampBuildingOf}
 use Rattle.answers.specs.Answers.{probeOf}
 
 -- What a service answers: check's numbers; the file that build, or build with lamp, writes to a buffer of its length; the pairs that a
--- run of a netlist writes to a buffer of their length, or the run's refusal; probe's numbers, also with what it leaves in a buffer of this
+-- run of a netlist writes to a buffer of their length, or the run's refusal; a step's place out, lines and pairs, from line values and a
+-- pairs buffer of nines, or its refusal with a pairs buffer of this length; probe's numbers, also with what it leaves in a buffer of this
 -- length; the lines of the sheet of a netlist, written to a buffer of its length; the table of a drawing, written to a buffer of its
 -- length, or the refusal and no table; of a rule sheet likewise.
 pub data Case : Type 0 where
@@ -22,6 +23,8 @@ pub data Case : Type 0 where
   lights : (table : List ℕ) (size : ℕ) (file : List ℕ) → Case
   runs : (netlist rails holds pairs : List ℕ) → Case
   refuses : (netlist rails holds : List ℕ) (refusal : ℕ) → Case
+  steps : (netlist rails holds : List ℕ) (place count : ℕ) (lines : List ℕ) (out : ℕ) (left pairs : List ℕ) → Case
+  halts : (netlist rails holds : List ℕ) (place count : ℕ) (lines : List ℕ) (room refusal : ℕ) → Case
   probes : (table hold : List ℕ) (refusal input output way : ℕ) → Case
   leaves : (table hold : List ℕ) (refusal input output way : ℕ) (buffer : List ℕ) → Case
   sheets : (netlist : List ℕ) (lines : List String) → Case
@@ -42,6 +45,11 @@ Answered (lights table size file) =
 Answered (runs netlist rails holds pairs) =
     let r = runOf netlist rails holds (replicate 17 0) (replicate (length pairs) 0) in (r .refusal ≡ 0) × (r .pairs ≡ pairs)
 Answered (refuses netlist rails holds refusal) = runOf netlist rails holds (replicate 17 0) room .refusal ≡ refusal
+Answered (steps netlist rails holds place count lines out left pairs) =
+    stepOf netlist rails holds place count lines (replicate (length pairs) 9) ≡ record { refusal = 0; place = out; lines = left; pairs = pairs }
+Answered (halts netlist rails holds place count lines size refusal) =
+    stepOf netlist rails holds place count lines (replicate size 9)
+    ≡ record { refusal = refusal; place = 0; lines = lines; pairs = replicate size 9 }
 Answered (probes table hold refusal input output way) =
     probeOf table hold room .answer ≡ record { refusal = refusal; input = input; output = output; way = way }
 Answered (leaves table hold refusal input output way buffer) =
@@ -259,6 +267,10 @@ wideRules =
     ∷ (1 ∷ 1 ∷ 1 ∷ 240 ∷ [])
     ∷ [])
 
+-- The rails of input 6: contacts 1 and 2 closed.
+abbrev sixth : List ℕ
+sixth = 0 ∷ 1 ∷ 1 ∷ 0 ∷ 1 ∷ 0 ∷ []
+
 abbrev pub starred : List Case
 starred =
     checks selector 0 3 1 9 4
@@ -362,4 +374,21 @@ starred =
     ∷ refuses selectorFile (0 ∷ 1 ∷ 0 ∷ 1 ∷ 0 ∷ 1 ∷ []) (0 ∷ 8 ∷ 2 ∷ 0 ∷ 10 ∷ 0 ∷ []) 14
     ∷ refuses selectorFile (0 ∷ 1 ∷ 0 ∷ 1 ∷ 0 ∷ 1 ∷ []) (0 ∷ 8 ∷ 2 ∷ 0 ∷ 8 ∷ 3 ∷ []) 14
     ∷ probes selector (0 ∷ 8 ∷ 6 ∷ []) 14 0 0 0
+    -- Steps, input 6. Nine lines from line 2 on: line 10 is held at 1, the hold of line 14 comes too early. Then all that are left: the
+    -- hold of line 10 comes too late. The pair is 11, as of one run with line 10 held at 1. A step of no line writes the pair again.
+    ∷ steps selectorFile sixth (0 ∷ 10 ∷ 1 ∷ 0 ∷ 14 ∷ 0 ∷ []) 2 9 (replicate 17 7) 11
+    (0 ∷ 1 ∷ 0 ∷ 1 ∷ 1 ∷ 0 ∷ 1 ∷ 0 ∷ 0 ∷ 0 ∷ 1 ∷ 7 ∷ 7 ∷ 7 ∷ 7 ∷ 7 ∷ 7 ∷ []) (9 ∷ 9 ∷ [])
+    ∷ steps selectorFile sixth (0 ∷ 10 ∷ 0 ∷ []) 11 100 (0 ∷ 1 ∷ 0 ∷ 1 ∷ 1 ∷ 0 ∷ 1 ∷ 0 ∷ 0 ∷ 0 ∷ 1 ∷ 7 ∷ 7 ∷ 7 ∷ 7 ∷ 7 ∷ 7 ∷ []) 17
+    (0 ∷ 1 ∷ 0 ∷ 1 ∷ 1 ∷ 0 ∷ 1 ∷ 0 ∷ 0 ∷ 0 ∷ 1 ∷ 1 ∷ 0 ∷ 0 ∷ 1 ∷ 1 ∷ 1 ∷ []) (1 ∷ 1 ∷ [])
+    ∷ runs selectorFile sixth (0 ∷ 10 ∷ 1 ∷ []) (1 ∷ 1 ∷ [])
+    ∷ steps selectorFile sixth [] 17 0 (replicate 17 1) 17 (0 ∷ replicate 16 1) (1 ∷ 1 ∷ [])
+    -- A byte of 2 is read as 1 and stays: line 16 from line 15, and the pair.
+    ∷ steps selectorFile sixth [] 16 1 (replicate 14 0 ++ (255 ∷ 2 ∷ 0 ∷ [])) 17 ((0 ∷ 1 ∷ replicate 12 0) ++ (255 ∷ 2 ∷ 1 ∷ [])) (1 ∷ 1 ∷ [])
+    -- Line 1 and line 18 are no place, line 17 is; a hold list is asked before the place, a buffer behind it, also where no pair is due.
+    ∷ halts selectorFile sixth [] 1 1 (replicate 17 7) 2 21
+    ∷ halts selectorFile sixth [] 18 0 (replicate 17 7) 2 21
+    ∷ halts selectorFile sixth (0 ∷ 7 ∷ 2 ∷ []) 1 1 (replicate 17 7) 2 14
+    ∷ halts selectorFile sixth [] 1 1 (replicate 16 7) 1 21
+    ∷ halts selectorFile sixth [] 2 1 (replicate 16 7) 2 9
+    ∷ halts selectorFile sixth [] 2 1 (replicate 17 7) 1 9
     ∷ []

@@ -1,9 +1,9 @@
 -- Demand 3 of boards and stuck lines.
-use mathlib.Core.Path.{_≡_, refl}
+use mathlib.Core.Path.{_≡_}
 use mathlib.Core.Logic.{inl, inr, ⊎-elim}
 use Rattle.table.proofs.Accepted.{accepted}
-use Rattle.netlist.specs.Netlist.{levelOf, holdsOf}
-use Rattle.simulation.specs.Service.{runOf}
+use Rattle.netlist.specs.Netlist.{levelOf, holdsOf, fileOf}
+use Rattle.simulation.proofs.Whole.{run-values}
 use Rattle.wiring.proofs.Files.{reads-back}
 use Rattle.rules.specs.Board.{boardOf}
 use Rattle.table.specs.Table.{diagramIn}
@@ -27,5 +27,4 @@ pub no-unseen-line : NoUnseenLine
 no-unseen-line table all y b low read bound = seen table all y b low read bound
 
 pub run-writes : RunWrites
-unfolding runOf
-run-writes net rails holds lines pairs e = rw (e, reads-back net) (refl, refl)
+run-writes net rails holds lines pairs e = rw (reads-back net) at (run-values (fileOf net) rails holds lines pairs e)

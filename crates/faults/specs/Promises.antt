@@ -9,7 +9,7 @@ use Rattle.diagram.specs.Diagram.{Input, valueAt}
 use Rattle.netlist.specs.Netlist.{Netlist, holdAt, levelOf, holdsOf, gateLine, lineCount, isRead, fileOf}
 use Rattle.simulation.specs.Run.{valuesOf, shownBy}
 use Rattle.drive.specs.Questions.{areOrdered}
-use Rattle.simulation.specs.Service.{runRefusal, runOf}
+use Rattle.simulation.specs.Service.{runOf}
 use Rattle.files.specs.Room.{over}
 use Rattle.rules.specs.Code.{codeRails}
 use Rattle.table.specs.Promises.{Accepted}
@@ -56,6 +56,5 @@ abbrev pub RunWrites : Type 0
 RunWrites =
     (net : Netlist) (rails holds lines pairs : List ℕ) →
     let values = valuesOf net rails (holdsOf holds) in
-    runRefusal (fileOf net) rails holds (length lines) (length pairs) ≡ 0 →
-    (runOf (fileOf net) rails holds lines pairs .lines ≡ over values lines)
-    × (runOf (fileOf net) rails holds lines pairs .pairs ≡ over (shownBy net values) pairs)
+    let ran = runOf (fileOf net) rails holds lines pairs in
+    ran .refusal ≡ 0 → (ran .lines ≡ over values lines) × (ran .pairs ≡ over (shownBy net values) pairs)

@@ -1,11 +1,12 @@
 // The services for C. include/pilgodur.h has their prototypes; a byte string is a pointer and then a length there.
 use answers::Probed;
 use files::Written;
+use run::Stepped;
 use synthesis::Checked;
 use table::Reading;
 ghost use mathlib.Core.Path.{_≡_};
 ghost use Rattle.table.specs.Table.{readingOf};
-ghost use Rattle.simulation.specs.Service.{runOf};
+ghost use Rattle.simulation.specs.Service.{runOf, stepOf};
 ghost use Rattle.sheet.specs.Service.{sheetingOf};
 ghost use Rattle.truths.specs.Service.{fromDrawingOf};
 ghost use Rattle.coverage.specs.Service.{fromRulesOf};
@@ -59,6 +60,23 @@ pub extern "C" fn pilgodur_run(
         ≡ runOf (now (netlist .entry)) (now (rails .entry)) (now (holds .entry)) (now (lines .entry)) (now (pairs .entry)) ⌝ }
 {
     run::run(netlist, rails, holds, lines, pairs)
+}
+
+// Works out so many lines of a run from a place on: questions 11 to 14, then 21, then 9 for either buffer; the place after them.
+#[no_mangle]
+pub extern "C" fn pilgodur_step(
+    netlist: &[u8],
+    rails: &[u8],
+    holds: &[u8],
+    place: u32,
+    count: u32,
+    lines: &mut [u8],
+    pairs: &mut [u8],
+) -> Stepped
+    ensures { λ r. ⌜ record { refusal = r .refusal; place = r .place; lines = now (lines .exit); pairs = now (pairs .exit) }
+        ≡ stepOf (now (netlist .entry)) (now (rails .entry)) (now (holds .entry)) place count (now (lines .entry)) (now (pairs .entry)) ⌝ }
+{
+    run::step(netlist, rails, holds, place, count, lines, pairs)
 }
 
 // Probes a stuck line or pin: questions 1 to 7, 14, 15, then 9.

@@ -12,11 +12,13 @@ use Rattle.netlist.specs.declared.Hold.{Hold}
 use Rattle.netlist.specs.Netlist.{Netlist, gateLine, gatesOf, holdAt, holdsOf, netOf}
 use Rattle.simulation.specs.Run.{holding, driversOf, workOut, valuesOf}
 use Rattle.files.specs.Room.{over}
-use Rattle.evaluation.specs.Inner.Walk.{Ready}
+use Rattle.evaluation.specs.Inner.Walk.{Ready, steppedOver}
 use Rattle.netlist.proofs.Lists.{length-gates}
 use Rattle.simulation.proofs.Runs.{length-run}
 use Rattle.rules.specs.Code.{codeRails}
-use Rattle.rules.proofs.Codes.{code-length}
+use Rattle.simulation.proofs.Whole.{whole-lines}
+use Rattle.simulation.proofs.Worked.{length-drivers}
+use Rattle.rules.proofs.Codes.{code-length, code-bits}
 use Rattle.faults.specs.Betrayal.{stuckAt, someNoCode, isSeen, smallestInput}
 use Rattle.search.specs.declared.inputs.Found.the-variants.{At, Nowhere}
 use Rattle.search.specs.Inner.Found.{foundIn}
@@ -46,13 +48,27 @@ module _ (file values buffer : List ℕ) where
       rw (append-assoc file values past, drop-at file (values ++ past) a l, take-at values past k m)
 
 module _ (n : ℕ) (gates hold : List ℕ) where
-  pub ready-at : {room : ℕ} {rails : List ℕ} → RunReady n gates hold room → length rails ≡ 2 * n → Ready gates rails hold room
-  ready-at s l = record { few = omega arith; many = omega arith; fits = omega arith; wired = rw l (s .wired); sorted = rw l (s .held) }
+  pub ready-at : {room : ℕ} (a : ℕ) {rails : List ℕ} → RunReady n gates hold room → rails ≡ codeRails n (inputOf a) →
+      Ready gates rails hold room
+  ready-at a {rails} s e =
+      let l : length rails ≡ 2 * n = ap length e ∙ code-length (inputOf a) n in
+      record {
+        few = omega arith;
+        many = omega arith;
+        fits = omega arith;
+        bits = rw e (code-bits (inputOf a) n);
+        wired = rw l (s .wired);
+        sorted = rw l (s .held);
+      }
 
-  pub shown-at : {room : ℕ} (a : ℕ) {rails : List ℕ} → RunReady n gates hold room → rails ≡ codeRails n (inputOf a) →
-      workOut (holding (holdsOf hold)) (driversOf rails (gatesOf gates)) (0 ∷ 1 ∷ []) ≡ stuckAt (netOf n gates []) (holdAt hold 0) a
-  unfolding stuckAt valuesOf
-  shown-at a s e = rw (one-hold hold (s .one), e)
+  pub shown-at : {room : ℕ} (a : ℕ) {rails : List ℕ} → RunReady n gates hold room → rails ≡ codeRails n (inputOf a) → (lines : List ℕ) →
+      steppedOver (holdsOf hold) rails gates 2 (2 + 2 * n + length gates / 5) lines ≡ over (stuckAt (netOf n gates []) (holdAt hold 0) a) lines
+  unfolding stuckAt
+  shown-at a {rails} s e lines =
+      let l : length rails ≡ 2 * n = ap length e ∙ code-length (inputOf a) n in
+      let size = length-drivers rails (gatesOf gates) in
+      whole-lines (netOf n gates []) rails hold lines (2 + 2 * n + length gates / 5 - 2) (omega (arith, length-gates gates))
+      ∙ rw (one-hold hold (s .one), e)
 
 -- Line values go by the gates alone.
 pub lines-same : (n : ℕ) (gates pairs : List ℕ) (h : Hold) (a : ℕ) → stuckAt (netOf n gates []) h a ≡ stuckAt (netOf n gates pairs) h a

@@ -44,7 +44,8 @@ fn show_at(gates: &[u8], n: usize, hold: &[u8], input: u32, lines: &mut [u8])
 {
     let rails = code_rails(n, input);
     let count = 2 * n;
-    evaluation::work_out(gates, &rails[..count], hold, lines);
+    let end = 2 + count + gates.len() / 5;
+    evaluation::work_out(gates, &rails[..count], hold, 2, end, lines);
 }
 
 // Writes the netlist's file and, behind it, every line's value at a code input with a line or pin held, and returns where these

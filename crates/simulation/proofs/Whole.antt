@@ -23,7 +23,7 @@ use Rattle.drive.specs.declared.Place.{Place}
 use Rattle.drive.specs.declared.Place.the-variants.{Within, Outside}
 use Rattle.drive.specs.Questions.{railsOf, railsNumber, orderOf, holdsNumber, placeOf, placeNumber}
 use Rattle.simulation.specs.Run.{Driver, workOut, holding, driversOf, valuesOf, shownBy}
-use Rattle.simulation.specs.Service.{linesBefore, steppedValues, steppedOr, stepRefusal, stepOf, ranBy, runOf}
+use Rattle.simulation.specs.Service.{Stepping, linesBefore, steppedValues, steppedOr, stepRefusal, stepOf, ranBy, runOf}
 use Rattle.simulation.proofs.Answers.{driven}
 use Rattle.simulation.proofs.Runs.{length-run, run-take}
 use Rattle.simulation.proofs.Worked.{length-drivers}
@@ -81,6 +81,22 @@ taken file rails holds place lines pairs e =
       room = room-yes _ _ (f .0);
       paired = room-yes _ _ (g .0);
     }
+
+-- A step's refusal is that of its questions; with none it leaves what it worked out, and with one what it was lent.
+module _ (file rails holds : List ℕ) (place count : ℕ) (lines pairs : List ℕ) where
+  pub refusal-is :
+      stepOf file rails holds place count lines pairs .refusal ≡ stepRefusal file rails holds place (length lines) (length pairs)
+  unfolding stepOf
+  refusal-is = go (stepRefusal file rails holds place (length lines) (length pairs))
+    where
+      go : (k : ℕ) → steppedOr k (netlistIn file) rails holds place count lines pairs .refusal ≡ k
+      go zero = refl
+      go (suc k) = refl
+
+  pub step-is : (k : ℕ) → stepOf file rails holds place count lines pairs .refusal ≡ k →
+      stepOf file rails holds place count lines pairs ≡ steppedOr k (netlistIn file) rails holds place count lines pairs
+  unfolding stepOf
+  step-is k e = ap (λ (j : ℕ). steppedOr j (netlistIn file) rails holds place count lines pairs) (sym refusal-is ∙ e)
 
 -- As many lines have drivers as there are past the constants.
 pub count-of : (net : Netlist) (rails : List ℕ) → railsOf (net .contacts) rails ≡ Driven →
@@ -141,3 +157,15 @@ one-step file rails holds lines pairs count all = go (stepRefusal file rails hol
         (whole-step file rails holds lines pairs (lineCount (netlistIn file)) (omega arith) e
         ∙ sym (whole-step file rails holds lines pairs count (all e) e))
     go (suc k) e = rw e
+
+-- What an accepted run leaves.
+pub run-values : (file rails holds lines pairs : List ℕ) →
+    let net = netlistIn file in
+    let values = valuesOf net rails (holdsOf holds) in
+    let ran = runOf file rails holds lines pairs in
+    ran .refusal ≡ 0 → (ran .lines ≡ over values lines) × (ran .pairs ≡ over (shownBy net values) pairs)
+unfolding runOf
+run-values file rails holds lines pairs e =
+    let count = lineCount (netlistIn file) in
+    let all = whole-step file rails holds lines pairs count (omega arith) (sym (refusal-is file rails holds 2 count lines pairs) ∙ e) in
+    (ap (λ (s : Stepping). s .lines) all, ap (λ (s : Stepping). s .pairs) all)

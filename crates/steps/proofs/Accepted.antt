@@ -1,4 +1,4 @@
--- What an accepted step leaves, and when a step is accepted.
+-- When a step is accepted, and where it ends.
 use native.Mathlib.Omega.{arith}
 use Prim.Native.Nat.{ℕ, zero, suc, _+_, _-_, _≤_, min}
 use mathlib.Core.Path.{_≡_, refl, sym, ap, ap₂, _∙_}
@@ -16,22 +16,6 @@ use Rattle.wiring.specs.Questions.{netlistIn, netlistRefusal}
 use Rattle.simulation.specs.Run.{driversOf}
 use Rattle.simulation.specs.Service.{stepRefusal, steppedOr, stepOf}
 use Rattle.simulation.proofs.Whole.{Taken, count-of}
-
-module _ (file rails holds : List ℕ) (place count : ℕ) (lines pairs : List ℕ) where
-  -- A step's refusal is that of its questions; with none it leaves what it worked out.
-  pub refusal-is :
-      stepOf file rails holds place count lines pairs .refusal ≡ stepRefusal file rails holds place (length lines) (length pairs)
-  unfolding stepOf
-  refusal-is = go (stepRefusal file rails holds place (length lines) (length pairs))
-    where
-      go : (k : ℕ) → steppedOr k (netlistIn file) rails holds place count lines pairs .refusal ≡ k
-      go zero = refl
-      go (suc k) = refl
-
-  pub step-is : stepOf file rails holds place count lines pairs .refusal ≡ 0 →
-      stepOf file rails holds place count lines pairs ≡ steppedOr zero (netlistIn file) rails holds place count lines pairs
-  unfolding stepOf
-  step-is e = ap (λ (k : ℕ). steppedOr k (netlistIn file) rails holds place count lines pairs) (sym refusal-is ∙ e)
 
 module _ (file rails holds : List ℕ) (place lines pairs : ℕ) where
   pub sound : stepRefusal file rails holds place lines pairs ≡ 0 → netlistRefusal file ≡ 0

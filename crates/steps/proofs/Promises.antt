@@ -1,7 +1,7 @@
 -- Steps make a run, holds that do not count have no effect, and a run is one step.
 use native.Mathlib.Omega.{arith}
-use Prim.Native.Nat.{ℕ, zero, suc, _+_, _-_, _≤_, _<_, min}
-use mathlib.Core.Path.{_≡_, refl, sym, ap, subst, _∙_}
+use Prim.Native.Nat.{ℕ, _+_, _-_, _≤_, _<_, min}
+use mathlib.Core.Path.{_≡_, sym, ap, subst, _∙_}
 use mathlib.Core.Bool.{Bool, cond}
 use mathlib.Core.List.{List, [], _∷_, _++_, map}
 use lib.Dec.{eqb}
@@ -15,32 +15,23 @@ use Rattle.drive.specs.declared.Holds.the-variants.{Ordered, Disordered}
 use Rattle.wiring.specs.Questions.{netlistIn}
 use Rattle.wiring.proofs.Accepted.{accepted}
 use Rattle.simulation.specs.Run.{Driver, held, workOut, holding, driversOf, valuesOf, shownBy}
-use Rattle.simulation.specs.Service.{Stepping, readBack, linesBefore, steppedValues, stepRefusal, stepOf, ranBy, runOf}
-use Rattle.simulation.proofs.Whole.{taken, count-of, whole-step}
+use Rattle.simulation.specs.Service.{Stepping, readBack, linesBefore, steppedValues, ranBy, runOf}
+use Rattle.simulation.proofs.Whole.{taken, count-of, refusal-is, step-is, whole-step, one-step}
 use Rattle.steps.specs.Steps.{passing, countedIn, holdList}
 use Rattle.steps.specs.Promises.{StepsMakeRun, OthersNoEffect, RunIsOneStep}
 use Rattle.steps.proofs.Sites.{ofLine, ofPin, held-within, held-apart, hold-agree}
 use Rattle.steps.proofs.Ordered.{list-ordered}
 use Rattle.steps.proofs.Below.{below}
-use Rattle.steps.proofs.Accepted.{refusal-is, step-is, accepts, ends-at}
+use Rattle.steps.proofs.Accepted.{accepts, ends-at}
 use Rattle.steps.proofs.Stands.{steps-stand}
 
 pub run-is-one-step : RunIsOneStep
-unfolding runOf stepOf
-run-is-one-step file rails holds lines pairs count all = go (stepRefusal file rails holds 2 (length lines) (length pairs)) refl
-  where
-    go : (k : ℕ) → stepRefusal file rails holds 2 (length lines) (length pairs) ≡ k →
-        ranBy (stepOf file rails holds 2 (lineCount (netlistIn file)) lines pairs) ≡ ranBy (stepOf file rails holds 2 count lines pairs)
-    go zero e =
-        ap (λ (s : Stepping). ranBy s)
-        (whole-step file rails holds lines pairs (lineCount (netlistIn file)) (omega arith) e
-        ∙ sym (whole-step file rails holds lines pairs count all e))
-    go (suc k) e = rw e refl
+run-is-one-step file rails holds lines pairs count all = one-step file rails holds lines pairs count (λ _. all)
 
 pub others-no-effect : OthersNoEffect
 others-no-effect file rails holds others place count lines pairs e f same =
     let net = netlistIn file in
-    let s = step-is file rails holds place count lines pairs e in
+    let s = step-is file rails holds place count lines pairs 0 e in
     let t = taken file rails holds place (length lines) (length pairs) (sym (refusal-is file rails holds place count lines pairs) ∙ e) in
     let out = min (place + count) (lineCount net) in
     let ends = ends-at file rails holds place (length lines) (length pairs) count t in
@@ -66,7 +57,7 @@ others-no-effect file rails holds others place count lines pairs e f same =
       lines = over (before ++ drop place (vs i)) lines;
       pairs = cond (eqb out (lineCount net)) (over (shownBy net (vs i)) pairs) pairs;
     })
-    ∙ sym (step-is file rails others place count lines pairs f)
+    ∙ sym (step-is file rails others place count lines pairs 0 f)
 
 pub steps-make-run : StepsMakeRun
 unfolding runOf valuesOf

@@ -17,12 +17,12 @@ use Rattle.simulation.specs.Run.{Driver, workOut, holding, driversOf, shownBy}
 use Rattle.simulation.specs.Service.{Stepping, readBack, linesBefore, steppedValues, steppedOr, stepRefusal, stepOf}
 use Rattle.simulation.proofs.Answers.{driven-bits, ordered}
 use Rattle.simulation.proofs.Runs.{run-take}
-use Rattle.simulation.proofs.Whole.{Taken, taken, count-of}
+use Rattle.simulation.proofs.Whole.{Taken, taken, refusal-is, step-is, count-of}
 use Rattle.steps.specs.Steps.{countedIn, Steps, first, next}
 use Rattle.steps.proofs.Rising.{list-rises}
 use Rattle.steps.proofs.Ordered.{Ranked, none-ranked, ranked-more}
 use Rattle.steps.proofs.Below.{below, length-below, below-more, below-read, below-kept}
-use Rattle.steps.proofs.Accepted.{refusal-is, step-is, sound, ends-at}
+use Rattle.steps.proofs.Accepted.{sound, ends-at}
 
 module _ (file rails lines : List ℕ) where
   abbrev net : Netlist
@@ -143,7 +143,7 @@ module _ (file rails lines : List ℕ) where
         let no : stepRefusal file rails holds place (length ls) (length pairs) ≡ 0 =
         sym (refusal-is file rails holds place count ls pairs) ∙ none in
         subst (λ (r : Stepping). Stands (counted ++ countedIn place (r .place) H) pairs r)
-        (sym (e ∙ step-is file rails holds place count ls pairs none))
+        (sym (e ∙ step-is file rails holds place count ls pairs 0 none))
         (stands (sound file rails holds place (length ls) (length pairs) no) (taken file rails holds place (length ls) (length pairs) no))
 
   pub steps-stand : (counted : List Hold) (pairs : List ℕ) (s : Stepping) → Steps file rails lines counted pairs s → Stands counted pairs s

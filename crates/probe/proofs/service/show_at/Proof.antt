@@ -1,5 +1,6 @@
 -- `service::show_at` meets its contract: the lines are worked out from the rails of the input and the one hold.
 use borrow.Author.Needs.{needs}
+use native.Mathlib.Omega.{arith}
 use Prim.Native.Nat.{ℕ, _*_}
 use mathlib.Core.Path.{_≡_, sym, ap, _∙_}
 use mathlib.Core.List.{List}
@@ -16,6 +17,12 @@ code-rails-requires c κs = search needs
 
 mul-count : tie.Need-mul-count
 mul-count c = search needs
+
+add-end : tie.Need-add-end
+add-end c = search needs
+
+add-end-2 : tie.Need-add-end-2
+add-end-2 c = search needs
 
 array-share-prefix-rails : tie.Need-array-share-prefix-rails
 array-share-prefix-rails c = search needs
@@ -34,7 +41,10 @@ slice-aggregate-work-out c = sym (rails-length c)
 work-out-requires : tie.Need-work-out-requires
 work-out-requires c κs =
     let start = c .before .before .before .before .before .before in
-    ready-at (start .args .n) _ _ (start .pre) (rails-length (c .before))
+    let p = start .pre in (
+      ready-at (start .args .n) _ _ (start .args .input) p (c .before .before .code-rails .ensures),
+      (omega arith, omega arith, omega (arith, rails-length (c .before))),
+    )
 
 same-length : tie.Need-same-length
 same-length c = search needs
@@ -44,8 +54,8 @@ returns c =
     let asked = c .before .before .before .before in
     let start = asked .before .before .before .before .before in
     c .before .before .work-out .ensures
-    ∙ ap (λ (vs : List ℕ). over vs (start .args .lines .now))
-    (shown-at (start .args .n) (start .args .gates .now) (start .args .hold .now) (start .args .input) (start .pre) (asked .before .code-rails .ensures))
+    ∙ shown-at (start .args .n) (start .args .gates .now) (start .args .hold .now) (start .args .input) (start .pre)
+    (asked .before .code-rails .ensures) (start .args .lines .now)
 
 pub show-at-spec : {M : Type 1} → statement M
 show-at-spec =
@@ -53,6 +63,8 @@ show-at-spec =
     (tie.spec
     code-rails-requires
     mul-count
+    add-end
+    add-end-2
     array-share-prefix-rails
     slice-aggregate-work-out
     work-out-requires
