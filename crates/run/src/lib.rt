@@ -17,6 +17,7 @@ ghost use Rattle.simulation.specs.Service.{readBack, stepOf, runOf};
 ghost use Rattle.run.specs.Inner.Asking.{askingOf};
 
 // What a step returns: its refusal, or 0, and its place out.
+#[repr(C)]
 pub struct Stepped {
     pub refusal: u32,
     pub place: u32,
