@@ -1,10 +1,12 @@
 -- One line more of a buffer, a rail's or a gate's, with whatever is held of it.
+use native.Mathlib.Nat.{eq-or-lt-of-le}
 use native.Mathlib.Omega.{arith}
 use Prim.Native.Nat.{ℕ, _+_, _-_, _/_, _≤_, _<_}
 use mathlib.Core.Path.{_≡_, sym, ap, ap₂, _∙_}
 use mathlib.Core.Bool.{true}
 use mathlib.Core.List.{List, []}
-use lib.ListN.{length, getD, take, set}
+use mathlib.Core.Logic.{⊎-elim}
+use lib.ListN.{length, getD, take, drop, set}
 use Rattle.fields.specs.Bounded.{listed}
 use Rattle.files.specs.Room.{over}
 use Rattle.netlist.specs.declared.Gate.{Gate}
@@ -60,12 +62,17 @@ module _ (holds : List Hold) (rails gates : List ℕ) (from : ℕ) (after : 2 �
         (w ∙ ap₂ (λ (a b : ℕ). held holds x 0 (gateOf (m .kind) (readBack (held holds x 1 a)) (readBack (held holds x 2 b))))
         (known _ (rw q (omega (arith, on .left)))) (known _ (rw q (omega (arith, on .right))))))
 
--- Rails alone.
-pub only-rails : (holds : List Hold) (rails gates : List ℕ) (from to : ℕ) → 2 ≤ from → from ≤ to → to ≤ 2 + length rails → (buffer : List ℕ) →
-    workedOver holds rails [] from to buffer ≡ workedOver holds rails gates from to buffer
+-- Rails alone, if any line.
+pub only-rails : (holds : List Hold) (rails gates : List ℕ) (from to : ℕ) → 2 ≤ from → from ≤ to → (from < to → to ≤ 2 + length rails) →
+    (buffer : List ℕ) → workedOver holds rails [] from to buffer ≡ workedOver holds rails gates from to buffer
 unfolding gatesOf listed
 only-rails holds rails gates from to a l h buffer =
-    ap (λ (ds : List (Driver ℕ)). over (workOut (reading holds) ds (take from buffer)) buffer) (rails-part rails (gatesOf gates) from to l a h)
+    ap (λ (ds : List (Driver ℕ)). over (workOut (reading holds) ds (take from buffer)) buffer)
+    (⊎-elim
+    (λ (e : from ≡ to).
+    let none : to - from ≡ 0 = omega arith in
+    ap (λ (k : ℕ). take k (drop (from - 2) (driversOf rails []))) none ∙ sym (ap (λ (k : ℕ). take k (drop (from - 2) (driversOf rails (gatesOf gates)))) none))
+    (λ m. rails-part rails (gatesOf gates) from to l a (h m)) (eq-or-lt-of-le l))
 
 -- Further lines.
 pub further-put : (holds : List Hold) (rails gates : List ℕ) (from mid to : ℕ) → 2 ≤ from → from ≤ mid → mid ≤ to →

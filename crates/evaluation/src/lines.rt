@@ -3,7 +3,7 @@ use crate::ranks;
 use crate::ranks::Next;
 ghost use mathlib.Core.Path.{_≡_};
 ghost use mathlib.Core.List.{[]};
-ghost use Prim.Native.Nat.{_+_, _*_, _/_, _≤_, _<_, min};
+ghost use Prim.Native.Nat.{_+_, _*_, _/_, _≤_, _<_, min, max};
 ghost use lib.ListN.{length};
 ghost use Rattle.netlist.specs.Netlist.{holdsOf};
 ghost use Rattle.simulation.specs.Run.{gateOf};
@@ -44,7 +44,8 @@ fn put_rails(
     lines: &mut [u8],
 ) -> Next
     requires { ⌜ Sorted (now holds) × Awaits (now holds) from next ⌝ }
-    requires { ⌜ (2 ≤ from) × (from ≤ to) × (to ≤ 2 + length (now rails)) × (length (now rails) ≤ 24) × (to ≤ length (now lines)) ⌝ }
+    requires { ⌜ (2 ≤ from) × (from ≤ to) × (from < to → to ≤ 2 + length (now rails)) × (length (now rails) ≤ 24)
+        × (to ≤ length (now lines)) ⌝ }
     ensures { λ r. ⌜ Awaits (now (holds .entry)) to r ⌝ }
     ensures { λ _. ⌜ now (lines .exit)
         ≡ workedOver (holdsOf (now (holds .entry))) (now (rails .entry)) [] from to (now (lines .entry)) ⌝ }
@@ -128,7 +129,13 @@ fn put_pinned(
     }
 }
 
-// The lesser of two numbers.
+// The greater and the lesser of two numbers.
+fn greater(x: usize, y: usize) -> usize
+    ensures { λ r. ⌜ r ≡ max x y ⌝ }
+{
+    if x < y { y } else { x }
+}
+
 pub fn lesser(x: usize, y: usize) -> usize
     ensures { λ r. ⌜ r ≡ min x y ⌝ }
 {
@@ -189,11 +196,7 @@ pub fn work_out(gates: &[u8], rails: &[u8], holds: &[u8], from: usize, to: usize
     lines[1] = 1;
     let first = 2 + rails.len();
     let next = ranks::seek(holds, from);
-    if first <= from {
-        put_all(gates, rails, holds, next, from, to, lines);
-        return;
-    }
-    let stop = lesser(first, to);
+    let stop = greater(from, lesser(first, to));
     let next_gate = put_rails(rails, holds, next, from, stop, lines);
     if stop < to {
         put_all(gates, rails, holds, next_gate, stop, to, lines);

@@ -35,18 +35,26 @@ loop-holds c =
 abbrev start-of : tie.At-loop Inv-loop μ-loop → tie.Start Inv-loop μ-loop
 start-of loop = loop .before .before .before .before
 
+-- The turn's line is a rail's.
+inside-of : (loop : tie.At-loop Inv-loop μ-loop) → loop .loop .x < start-of loop .args .to →
+    loop .loop .x < 2 + length (start-of loop .args .rails .now)
+inside-of loop l = omega (arith, start-of loop .pre .1 .2 (omega (arith, loop .loop .inv .0)))
+
 sub-look : tie.Need-sub-look Inv-loop μ-loop
-sub-look c = search needs
+sub-look c =
+    let loop = c .before in
+    omega (arith, start-of loop .pre .1 .0, loop .loop .inv .0)
 
 shared-slice-read-look : tie.Need-shared-slice-read-look Inv-loop μ-loop
-shared-slice-read-look c = search needs
+shared-slice-read-look c =
+    let loop = c .before .before in
+    omega (arith, inside-of loop (c .before .loop-test .taken), start-of loop .pre .1 .0, loop .loop .inv .0)
 
 look-requires : tie.Need-look-requires Inv-loop μ-loop
 look-requires c κs =
     let loop = c .before .before in
     let start = start-of loop in
-    let p = start .pre .1 in
-    let small : loop .loop .x < 262144 = omega (arith, c .before .loop-test .taken, p .2, p .3) in
+    let small : loop .loop .x < 262144 = omega (arith, inside-of loop (c .before .loop-test .taken), start .pre .1 .3) in
     (start .pre .0 .0, loop .loop .inv .2, small)
 
 slice-write-lines : tie.Need-slice-write-lines Inv-loop μ-loop
@@ -70,12 +78,12 @@ loop-again c =
     let x = loop .loop .x in
     let below = c .before .before .before .loop-test .taken in
     let look = c .before .look .ensures in
-    let inside : x < 2 + length (a .rails .now) = omega (arith, p .2, p .3) in (
+    let inside = inside-of loop below in (
       omega arith,
       omega arith,
       look .awaits,
       rail-put (holdsOf (a .holds .now)) (a .rails .now) [] (a .from) (p .0) (a .lines .now) x _ (inv .0) (omega (arith, p .4)) (inv .3) inside
-          (look .has x 0 refl (omega (arith, p .2, p .3)) (omega arith)),
+          (look .has x 0 refl (omega (arith, p .3)) (omega arith)),
       simp length-set (inv .4),
     )
 

@@ -40,14 +40,6 @@ all-of start e =
     stepped-over (holdsOf (a .holds .now)) (a .rails .now) (a .gates .now) (a .from) (a .to) (a .lines .now) (p .0 .bits) (p .1 .0)
     (omega (arith, p .1 .1, p .1 .2, p .0 .fits)) e
 
--- The rails' lines, up to the first gate or the step's end.
-rails-of : (start : tie.Start) (stop : ℕ) → start .args .from ≤ stop → stop ≤ 2 + length (start .args .rails .now) → {ws : List ℕ} →
-    (let a = start .args in ws ≡ workedOver (holdsOf (a .holds .now)) (a .rails .now) [] (a .from) stop (begun start)) →
-    (let a = start .args in ws ≡ workedOver (holdsOf (a .holds .now)) (a .rails .now) (a .gates .now) (a .from) stop (begun start))
-rails-of start stop l h e =
-    let a = start .args in
-    e ∙ only-rails (holdsOf (a .holds .now)) (a .rails .now) (a .gates .now) (a .from) stop (start .pre .1 .0) l h (begun start)
-
 slice-write-lines : tie.Need-slice-write-lines
 slice-write-lines c = search needs
 
@@ -63,87 +55,90 @@ seek-requires c κs =
     let p = start .pre in
     (sorted-of start, omega (arith, p .1 .1, p .1 .2, p .0 .few, p .0 .many))
 
+lesser-requires : tie.Need-lesser-requires
+lesser-requires c κs = search needs
+
+greater-requires : tie.Need-greater-requires
+greater-requires c κs = search needs
+
+-- Where the rails' lines end: between the step's places, and past no rail if it is past the first of them.
+abbrev start-of : tie.After-greater → tie.Start
+start-of met = met .before .before .before .before .before .before .before
+
+stop-of : (met : tie.After-greater) →
+    let a = start-of met .args in
+    let stop = met .greater .result in
+    (a .from ≤ stop) × (stop ≤ a .to) × (a .from < stop → stop ≤ 2 + length (a .rails .now))
+    × (stop < a .to → 2 + length (a .rails .now) ≤ stop)
+stop-of met =
+    let lesser = met .before .lesser .ensures in
+    let greater = met .greater .ensures in
+    let low = start-of met .pre .1 .1 in
+    (omega arith, omega arith, λ m. omega arith, λ m. omega arith)
+
+-- The rails' lines, up to there.
+rails-of : (met : tie.After-greater) {ws : List ℕ} →
+    let a = start-of met .args in
+    ws ≡ workedOver (holdsOf (a .holds .now)) (a .rails .now) [] (a .from) (met .greater .result) (begun (start-of met)) →
+    ws ≡ workedOver (holdsOf (a .holds .now)) (a .rails .now) (a .gates .now) (a .from) (met .greater .result) (begun (start-of met))
+rails-of met e =
+    let start = start-of met in
+    let a = start .args in
+    let stop = stop-of met in
+    e ∙ only-rails (holdsOf (a .holds .now)) (a .rails .now) (a .gates .now) (a .from) (met .greater .result) (start .pre .1 .0) (stop .0)
+    (stop .2) (begun start)
+
+put-rails-requires : tie.Need-put-rails-requires
+put-rails-requires c κs =
+    let met = c .before in
+    let start = start-of met in
+    let stop = stop-of met in
+    let p = start .pre in (
+      (sorted-of start, met .before .before .seek .ensures),
+      (p .1 .0, stop .0, stop .2, p .0 .few, omega (arith, stop .1, long start, p .1 .2, p .0 .fits)),
+    )
+
 put-all-requires : tie.Need-put-all-requires
 put-all-requires c κs =
-    let start = c .before .before .before .before .before .before .before in
-    ((ready-of start _ (long start), c .before .before .seek .ensures), (c .before .if1 .taken, start .pre .1 .1, start .pre .1 .2))
+    let rails = c .before .before .before .before .put-rails in
+    let met = c .before .before .before .before .before .before in
+    let start = start-of met in
+    let stop = stop-of met in (
+      (ready-of start _ (rails .kept .1 .1 .1 .1 .1 .0 ∙ long start), rails .ensures .0),
+      (stop .3 (c .before .if1 .taken), stop .1, start .pre .1 .2),
+    )
 
 same-length : tie.Need-same-length
 same-length c =
     c .before .before .put-all .kept .1 .1 .1 .1 .1 .1 .0
-    ∙ long (c .before .before .before .before .before .before .before .before .before .before)
+    ∙ c .before .before .before .before .before .before .before .put-rails .kept .1 .1 .1 .1 .1 .0
+    ∙ long (start-of (c .before .before .before .before .before .before .before .before .before))
 
 returns : tie.Need-returns
-returns c = all-of (c .before .before .before .before .before .before .before .before .before .before) (c .before .before .put-all .ensures)
-
-lesser-requires : tie.Need-lesser-requires
-lesser-requires c κs = search needs
-
-put-rails-requires : tie.Need-put-rails-requires
-put-rails-requires c κs =
-    let start = c .before .before .before .before .before .before .before .before in
+returns c =
+    let rails = c .before .before .before .before .before .before .before .put-rails in
+    let met = c .before .before .before .before .before .before .before .before .before in
+    let start = start-of met in
+    let stop = stop-of met in
+    let a = start .args in
     let p = start .pre in
-    let stop = c .before .lesser .ensures in
-    let rails : start .args .from < 2 + length (start .args .rails .now) = omega (arith, c .before .before .if1 .left) in (
-      (sorted-of start, c .before .before .before .seek .ensures),
-      (
-        p .1 .0,
-        omega (arith, p .1 .1),
-        omega arith,
-        p .0 .few,
-        omega (arith, long start, p .1 .2, p .0 .fits),
-      ),
-    )
-
--- Rails and gates: where the rails' lines end is the first gate's.
-put-all-requires-2 : tie.Need-put-all-requires-2
-put-all-requires-2 c κs =
-    let rails = c .before .before .before .before .put-rails in
-    let stop = c .before .before .before .before .before .before .lesser .ensures in
-    let start = c .before .before .before .before .before .before .before .before .before .before .before .before .before in
-    let more = c .before .if2 .taken in (
-      (ready-of start _ (rails .kept .1 .1 .1 .1 .1 .0 ∙ long start), rails .ensures .0),
-      (omega arith, omega arith, start .pre .1 .2),
-    )
+    all-of start
+    (further-put (holdsOf (a .holds .now)) (a .rails .now) (a .gates .now) (a .from) (met .greater .result) (a .to) (p .1 .0) (stop .0) (stop .1)
+    (p .1 .2) (begun start) (omega (arith, long start, p .1 .2, p .0 .fits)) (rails-of met (rails .ensures .1))
+    (c .before .before .put-all .ensures))
 
 same-length-2 : tie.Need-same-length-2
 same-length-2 c =
-    let start = c .before .before .before .before .before .before .before .before .before .before .before .before .before .before .before .before in
-    c .before .before .put-all2 .kept .1 .1 .1 .1 .1 .1 .0
-    ∙ c .before .before .before .before .before .before .before .put-rails .kept .1 .1 .1 .1 .1 .0 ∙ long start
+    c .before .before .before .put-rails .kept .1 .1 .1 .1 .1 .0 ∙ long (start-of (c .before .before .before .before .before))
 
 returns-2 : tie.Need-returns-2
 returns-2 c =
-    let start = c .before .before .before .before .before .before .before .before .before .before .before .before .before .before .before .before in
-    let rails = c .before .before .before .before .before .before .before .put-rails in
-    let met = c .before .before .before .before .before .before .before .before .before in
-    let stop = met .lesser .ensures in
-    let below = met .before .if1 .left in
-    let a = start .args in
-    let p = start .pre in
-    let low : a .from ≤ met .lesser .result = omega (arith, p .1 .1) in
-    all-of start
-    (further-put (holdsOf (a .holds .now)) (a .rails .now) (a .gates .now) (a .from) (met .lesser .result) (a .to) (p .1 .0) low (omega arith)
-    (p .1 .2) (begun start) (omega (arith, long start, p .1 .2, p .0 .fits))
-    (rails-of start (met .lesser .result) low (omega arith) (rails .ensures .1)) (c .before .before .put-all2 .ensures))
-
-same-length-3 : tie.Need-same-length-3
-same-length-3 c =
-    c .before .before .before .put-rails .kept .1 .1 .1 .1 .1 .0
-    ∙ long (c .before .before .before .before .before .before .before .before .before .before .before .before)
-
-returns-3 : tie.Need-returns-3
-returns-3 c =
-    let start = c .before .before .before .before .before .before .before .before .before .before .before .before in
     let met = c .before .before .before .before .before in
-    let stop = met .lesser .ensures in
-    let below = met .before .if1 .left in
-    let a = start .args in
-    let low : a .from ≤ met .lesser .result = omega (arith, start .pre .1 .1) in
-    let end : met .lesser .result ≡ a .to = omega (arith, c .if2 .left) in
-    all-of start
-    (rails-of start (met .lesser .result) low (omega arith) (c .before .before .before .put-rails .ensures .1)
-    ∙ ap (λ (k : ℕ). workedOver (holdsOf (a .holds .now)) (a .rails .now) (a .gates .now) (a .from) k (begun start)) end)
+    let a = start-of met .args in
+    let end : met .greater .result ≡ a .to = omega (arith, stop-of met .1, c .if1 .left) in
+    all-of (start-of met)
+    (rails-of met (c .before .before .before .put-rails .ensures .1)
+    ∙ ap (λ (k : ℕ). workedOver (holdsOf (a .holds .now)) (a .rails .now) (a .gates .now) (a .from) k (begun (start-of met))) end)
 
 pub work-out-spec : {M : Type 1} → statement M
 work-out-spec =
@@ -153,13 +148,11 @@ work-out-spec =
     slice-write-lines-2
     add-first
     seek-requires
+    lesser-requires
+    greater-requires
+    put-rails-requires
     put-all-requires
     same-length
     returns
-    lesser-requires
-    put-rails-requires
-    put-all-requires-2
     same-length-2
-    returns-2
-    same-length-3
-    returns-3)
+    returns-2)
