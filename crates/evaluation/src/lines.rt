@@ -23,15 +23,12 @@ pub fn read_back(byte: u8) -> u8
     if byte == 0 { 0 } else { 1 }
 }
 
-// What a gate makes of two bytes: AND (kind 0) the lesser, OR the greater.
+// What a gate makes of two bytes as they are read: AND (kind 0) and OR (kind 1) are what most of the kind and the two are.
 fn make(kind: u8, a: u8, b: u8) -> u8
+    requires { ⌜ kind ≤ 1 ⌝ }
     ensures { λ r. ⌜ r ≡ gateOf kind (readBack a) (readBack b) ⌝ }
 {
-    if kind == 0 {
-        if a < b { read_back(a) } else { read_back(b) }
-    } else {
-        if a < b { read_back(b) } else { read_back(a) }
-    }
+    (kind + read_back(a) + read_back(b)) / 2
 }
 
 // Works out rails' lines, from one to another, each with its hold.

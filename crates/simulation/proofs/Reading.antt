@@ -1,6 +1,4 @@
 -- Values are read back as they are; other bytes are read as the value 1.
-use borrow.Author.Tests.{ne-eqb}
-use native.Mathlib.Decide.{ℕ-discrete}
 use native.Mathlib.Nat.{mod-lt}
 use native.Mathlib.Omega.{arith}
 use Prim.Native.Nat.{ℕ, zero, suc, _<_, _≤_}
@@ -25,19 +23,11 @@ read-bit zero h = refl
 read-bit (suc zero) h = refl
 read-bit (suc (suc v)) h = absurd (omega arith)
 
-pub read-mono : (a b : ℕ) → a ≤ b → readBack a ≤ readBack b
-read-mono a b h = go (ℕ-discrete a 0) (ℕ-discrete b 0)
-  where
-    go : Dec (a ≡ 0) → Dec (b ≡ 0) → readBack a ≤ readBack b
-    go (yes p) _ = rw p (let low : 0 ≤ readBack b = omega arith in low)
-    go (no p) (yes q) = absurd (omega arith)
-    go (no p) (no q) = rw (ne-eqb a 0 p, ne-eqb b 0 q) (let same : 1 ≤ 1 = omega arith in same)
-
 pub read-bits : (vs : List ℕ) → Bits vs → map readBack vs ≡ vs
 read-bits [] h = refl
 read-bits (v ∷ vs) h = ap₂ _∷_ (read-bit v (h .0)) (read-bits vs (h .1))
 
-reads-bit : (v : ℕ) → readBack v ≤ 1
+pub reads-bit : (v : ℕ) → readBack v ≤ 1
 reads-bit v = go (eqb v 0)
   where
     go : (b : Bool) → _≤_ (cond b 0 1) 1

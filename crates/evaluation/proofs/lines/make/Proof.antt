@@ -1,57 +1,40 @@
--- `lines::make` meets its contract: of two bytes the lesser is read as the lesser value.
+-- `lines::make` meets its contract: of three bits, one of which is the kind, most are 1 as the gate says of the other two.
 use borrow.Author.Needs.{needs}
-use borrow.Author.Tests.{eq-eqb, ne-eqb}
 use native.Mathlib.Omega.{arith}
-use mathlib.Core.Path.{_∙_}
-use Rattle.simulation.proofs.Reading.{read-mono}
+use Prim.Native.Nat.{ℕ, zero, suc, _+_, _/_, _≤_}
+use mathlib.Core.Path.{_≡_, ap₂, _∙_}
+use Rattle.simulation.specs.Run.{gateOf}
+use Rattle.simulation.specs.Service.{readBack}
+use Rattle.simulation.proofs.Reading.{reads-bit}
 use Rattle.evaluation.proofs.lines.make.Statement.{statement}
 use Rattle.evaluation.proofs.lines.make.Tie as tie
+
+most : (kind x y : ℕ) → kind ≤ 1 → x ≤ 1 → y ≤ 1 → (kind + x + y) / 2 ≡ gateOf kind x y
+most zero x y k a b = omega arith
+most (suc zero) x y k a b = omega arith
+most (suc (suc kind)) x y k a b = absurd (omega arith)
 
 read-back-requires : tie.Need-read-back-requires
 read-back-requires c κs = search needs
 
+add-result : tie.Need-add-result
+add-result c = omega (arith, c .before .pre, c .read-back .ensures, reads-bit (c .before .args .a))
+
 read-back-requires-2 : tie.Need-read-back-requires-2
 read-back-requires-2 c κs = search needs
 
-read-back-requires-3 : tie.Need-read-back-requires-3
-read-back-requires-3 c κs = search needs
-
-read-back-requires-4 : tie.Need-read-back-requires-4
-read-back-requires-4 c κs = search needs
+add-result-2 : tie.Need-add-result-2
+add-result-2 c =
+    let start = c .before .before in
+    omega
+    (arith, start .pre, c .before .read-back .ensures, reads-bit (start .args .a), c .read-back2 .ensures, reads-bit (start .args .b))
 
 returns : tie.Need-returns
 returns c =
-    let a = c .before .before .before .args in
-    c .read-back .ensures
-    ∙ rw (eq-eqb _ _ (c .before .before .if1 .taken)) (omega (arith, read-mono (a .a) (a .b) (omega (arith, c .before .if2 .taken))))
-
-returns-2 : tie.Need-returns-2
-returns-2 c =
-    let a = c .before .before .before .args in
-    c .read-back2 .ensures
-    ∙ rw (eq-eqb _ _ (c .before .before .if1 .taken)) (omega (arith, read-mono (a .b) (a .a) (omega (arith, c .before .if2 .left))))
-
-returns-3 : tie.Need-returns-3
-returns-3 c =
-    let a = c .before .before .before .args in
-    c .read-back3 .ensures
-    ∙ rw (ne-eqb _ _ (c .before .before .if1 .left)) (omega (arith, read-mono (a .a) (a .b) (omega (arith, c .before .if3 .taken))))
-
-returns-4 : tie.Need-returns-4
-returns-4 c =
-    let a = c .before .before .before .args in
-    c .read-back4 .ensures
-    ∙ rw (ne-eqb _ _ (c .before .before .if1 .left)) (omega (arith, read-mono (a .b) (a .a) (omega (arith, c .before .if3 .left))))
+    let start = c .before .before in
+    let a = start .args in
+    ap₂ (λ (x y : ℕ). (a .kind + x + y) / 2) (c .before .read-back .ensures) (c .read-back2 .ensures)
+    ∙ most (a .kind) (readBack (a .a)) (readBack (a .b)) (start .pre) (reads-bit (a .a)) (reads-bit (a .b))
 
 pub make-spec : {M : Type 1} → statement M
-make-spec =
-    tie.close
-    (tie.spec
-    read-back-requires
-    read-back-requires-2
-    read-back-requires-3
-    read-back-requires-4
-    returns
-    returns-2
-    returns-3
-    returns-4)
+make-spec = tie.close (tie.spec read-back-requires add-result read-back-requires-2 add-result-2 returns)

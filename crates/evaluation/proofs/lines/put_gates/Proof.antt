@@ -87,7 +87,10 @@ slice-read-make-2 c =
     rw (read .gate-at .ensures) (omega (arith, wired-at loop below .right, in-gates loop below .0, room-of loop below))
 
 make-requires : tie.Need-make-requires Inv-loop μ-loop
-make-requires c κs = search needs
+make-requires c κs =
+    let read = c .before .before .before .before in
+    let loop = read .before .before in
+    rw (read .gate-at .ensures) (wired-at loop (read .before .loop-test .taken) .kind)
 
 look-requires : tie.Need-look-requires Inv-loop μ-loop
 look-requires c κs =

@@ -86,7 +86,9 @@ look-requires-2 c κs =
     (sorted-of start, rw next at (left .look .ensures .awaits), omega (arith, small-of start))
 
 make-requires : tie.Need-make-requires
-make-requires c κs = search needs
+make-requires c κs =
+    let read = c .before .before .before .before .before .before .before in
+    rw (read .gate-at .ensures) (on-of (start-of read) .kind)
 
 look-requires-3 : tie.Need-look-requires-3
 look-requires-3 c κs =
