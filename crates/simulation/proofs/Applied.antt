@@ -1,5 +1,5 @@
 -- Runs and steps of a small netlist, by computation: pins and lines held, apart and together; the first no; bytes past what is written;
--- a run in two calls. The laws come after this file by its name, so that a wrong rule fails here first.
+-- a run in two calls. A wrong rule fails here too, in numbers.
 use Prim.Native.Nat.{ℕ}
 use mathlib.Core.Path.{_≡_, refl}
 use mathlib.Core.List.{List, [], _∷_, flatMap}

@@ -1,3 +1,4 @@
+pub mod Applied
 pub mod Passing
 pub mod Sites
 pub mod Rising
