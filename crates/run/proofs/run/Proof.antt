@@ -23,7 +23,7 @@ unfolding stepRefusal
 returns c =
     let a = c .before .before .before .before .before .before .before .before .before .before .before .before .args in
     ap ranBy (c .before .before .before .before .step .ensures)
-    ∙ sym (one-step (a .netlist .now) (a .rails .now) (a .holds .now) (a .lines .now) (a .pairs .now) 4294967295 (λ e.
+    ∙ sym (one-step (a .netlist .now) (a .rails .now) (a .holds .now) (a .lines .now) (a .pairs .now) _ (λ e.
     let b = accepted (a .netlist .now) (first-yes _ _ e .0) .bounds in
     omega (arith, b .gates, b .most)))
 

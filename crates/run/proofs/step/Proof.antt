@@ -131,7 +131,7 @@ returns-3 : tie.Need-returns-3
 returns-3 c =
     let m = c .before .before .before .before .before in
     part _ _ _ _ _ _ _ (open! (parted m)) (m .before .before .ask .ensures) (m .before .if2 .left) (m .lesser .ensures)
-    (c .before .before .before .work-out .ensures) (c .if3 .taken)
+    (c .before .before .before .work-out .ensures) (omega (arith, c .if3 .taken, m .lesser .ensures))
 
 show-requires : tie.Need-show-requires
 show-requires c κs =
@@ -155,8 +155,8 @@ returns-4 : tie.Need-returns-4
 returns-4 c =
     let m = c .before .before .before .before .before .before .before .before .before .before in
     whole _ _ _ _ _ _ _ (open! (parted m)) (m .before .before .ask .ensures) (m .before .if2 .left) (m .lesser .ensures)
-    (c .before .before .before .before .before .before .before .before .work-out .ensures) (c .before .before .before .before .before .if3 .left)
-    (c .before .before .show .ensures)
+    (c .before .before .before .before .before .before .before .before .work-out .ensures)
+    (omega (arith, c .before .before .before .before .before .if3 .left)) (c .before .before .show .ensures)
 
 pub step-spec : {M : Type 1} → statement M
 step-spec =
