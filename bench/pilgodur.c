@@ -1,4 +1,4 @@
-/* The bench program: the nine services, and what can be made of them, on files. */
+/* The bench program: the ten services, and what can be made of them, on files. */
 #define _XOPEN_SOURCE 700
 #include <stdio.h>
 #include <stdlib.h>
