@@ -468,23 +468,13 @@ static bool take_holds(const uint8_t *holds, size_t length, unsigned first, unsi
     return true;
 }
 
-/* A gate's bytes as a number: kind, left source, right source. Three bytes after it are read, too, and dropped. */
-static uint64_t gate_word(const uint8_t *gate)
-{
-    uint64_t bytes;
-    memcpy(&bytes, gate, 8);
-    return __builtin_bswap64(bytes) >> 24;
-}
-
 /* Question 12 of the gates from a line on. */
 static bool gates_good(const uint8_t *gate, unsigned from, unsigned to)
 {
-    bool bad = false;
-    for (unsigned line = from; line < to; line++, gate += 5) {
-        uint64_t word = gate_word(gate);
-        bad |= (word >> 33 != 0) | ((word >> 16 & 0xffff) >= line) | ((word & 0xffff) >= line);
-    }
-    return !bad;
+    for (unsigned line = from; line < to; line++, gate += 5)
+        if (gate[0] > 1 || two_bytes(gate + 1) >= line || two_bytes(gate + 3) >= line)
+            return false;
+    return true;
 }
 
 /* The same, and works them out as long as they are good. */
@@ -765,6 +755,14 @@ static uint8_t *put_heading(uint8_t *at)
 {
     memcpy(at, " LINE KIN     A     B\n", ROW);
     return at + ROW;
+}
+
+/* A gate's bytes as a number: kind, left source, right source. Three bytes after it are read, too, and dropped. */
+static uint64_t gate_word(const uint8_t *gate)
+{
+    uint64_t bytes;
+    memcpy(&bytes, gate, 8);
+    return __builtin_bswap64(bytes) >> 24;
 }
 
 /* Writes the gates' rows, page by page. */
