@@ -22,7 +22,8 @@ static const unsigned string_counts[SERVICES] = {1, 2, 2, 1, 5, 5, 3, 2, 2, 2};
 static const unsigned number_counts[SERVICES] = {5, 2, 2, 2, 1, 2, 4, 2, 2, 2};
 static const char *const string_names[SERVICES][STRINGS] = {
     {"table"}, {"table", "file"}, {"table", "file"}, {"table"}, {"netlist", "rails", "holds", "lines", "pairs"},
-    {"netlist", "rails", "holds", "lines", "pairs"}, {"table", "hold", "buffer"}, {"netlist", "text"}, {"drawing", "table"}, {"rules", "table"}};
+    {"netlist", "rails", "holds", "lines", "pairs"}, {"table", "hold", "buffer"}, {"netlist", "text"}, {"drawing", "table"},
+    {"rules", "table"}};
 static const char *const number_names[SERVICES][NUMBERS] = {
     {"refusal", "contacts", "outputs", "gates", "depth"},
     {"refusal", "length"},

@@ -1,7 +1,7 @@
 /* Compares the library with the reference, call by call, on boards with spare contacts in every place, on lamps of every count of
- * outputs and of every damage, on holds of lines and pins of every kind, on runs cut into steps, on drawings and rule sheets of every kind, on notes of every
- * kind in every place and on random cases, and asks the demands of boards that the library builds and of tables that it makes from
- * drawings and rule sheets.
+ * outputs and of every damage, on holds of lines and pins of every kind, on runs cut into steps in every way, on drawings and rule
+ * sheets of every kind, on notes of every kind in every place and on random cases, and asks the demands of boards that the library builds
+ * and of tables that it makes from drawings and rule sheets.
  *
  *     compare [SEED [CASES]]
  *
