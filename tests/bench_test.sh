@@ -718,6 +718,7 @@ try step selector.netlist 3 calls calls
 try step selector.netlist 3 calls --lines
 try step selector.netlist 3 calls -o out
 pipe 'pilgodur step selector.netlist 3 calls >>calls'
+pipe 'pilgodur step selector.netlist @3 calls >>3'
 pipe 'pilgodur step selector.netlist 3 - <&-'
 judge
 

@@ -64,7 +64,7 @@ rails='call 1: place 8, lines left 9
 no_hold='8: not a hold; write LINE=VALUE, as in 10=0, or LINE.PIN=VALUE, as in 8.1=0'
 question14=$("$bench" run "$examples/selector.netlist" 3 1=0 2>&1 | sed 's/.*: refused/refused/')
 # Answers come before the next line is asked for; blank lines and wrong ones change nothing; nothing is asked once all is worked out.
-asked '6\n\n# none\n3 8\n3 10=1 8=1\n3 10=1\nx\nall 8=1\nall\n' "input 3, contacts:110
+asked '6\n\n# none\n3 8\n3 10=1 8=1\n3 10=1\nx\nall 8=1\nall\n\004' "input 3, contacts:110
 place 2, lines left 15: $rails
 place 8, lines left 9: place 8, lines left 9: place 8, lines left 9: pilgodur: standard input: line 4: $no_hold
 place 8, lines left 9: pilgodur: standard input: line 5: selector.netlist with hold 8=1: $question14
@@ -97,14 +97,26 @@ place 8, lines left 9:
 the calls end before line 8: no pairs
 [0]" step selector.netlist 3
 # A file of calls is not asked for, and what is wrong before the calls is told before the first is asked for.
-asked 'all\n' "input 3, contacts:110
+asked 'all\n\004' "input 3, contacts:110
 $rails
 the calls end before line 8: no pairs
 [0]" step selector.netlist 3 hex:36
-asked 'all\n' "pilgodur: selector.netlist with rails hex:00: refused, number 13: Are there 2n rail bytes, in line order, each 0 or 1? No.
+asked 'all\n\004' "pilgodur: selector.netlist with rails hex:00: refused, number 13: Are there 2n rail bytes, in line order, each 0 or 1? No.
 [1]" step selector.netlist hex:00
-asked 'all\n' "pilgodur: step: - is given, but standard input has the calls; name a file of calls
+asked 'all\n\004' "pilgodur: step: - is given, but standard input has the calls; name a file of calls
 [2]" step - 3
+# The prompts and what is wrong come on standard error, the answers on standard output.
+said=$(cd "$examples" && "$terminal" -t '0
+x
+all
+' sh -c '"$0" step selector.netlist 3 | tail -n 1 | cksum' "$bench")
+case $said in
+"place 2, lines left 15: place 2, lines left 15: pilgodur: standard input: line 2: x: not a count; "*"$(echo 'output 0: 10 yes' | cksum)"*) ;;
+*)
+    echo "FAILED on a terminal with another standard output: $said"
+    failures=$((failures + 1))
+    ;;
+esac
 
 echo "terminal: $failures failures"
 [ "$failures" -eq 0 ]
