@@ -117,8 +117,16 @@ static size_t written_to(const struct call *call, unsigned k, const struct answe
     return k == 3 ? answer->number[1] : answer->number[1] == call->need[3] ? call->need[k] : 0;
 }
 
+/* Whether a step that was not refused left the lines before its place as they were. */
+static const char *step_misuse(enum side side, const struct call *call, const struct answer *answer)
+{
+    if (call->place < 2 || call->place > answer->number[1])
+        return "the place returned comes before the one given, or that is below 2";
+    return untouched_between(&lent[side][3], 2, call->place) ? NULL : "the byte of an earlier line has changed";
+}
+
 /* Whether a side gave a number that the service can give, and kept to the rules for lent bytes: none outside a buffer, none after a
- * refusal, none past what is written, and in a step none of an earlier line. */
+ * refusal, none past what is written. */
 static const char *misuse(enum side side, const struct call *call, const struct answer *answer)
 {
     if (answer->number[0] >= REFUSALS || !(possible[call->service] >> answer->number[0] & 1))
@@ -134,9 +142,7 @@ static const char *misuse(enum side side, const struct call *call, const struct 
         if (!untouched_from(&lent[side][k], kept))
             return answered ? "a byte past the answer or outside the buffer has changed" : "a lent byte has changed";
     }
-    if (call->service == STEP && answer->number[0] == 0 && !untouched_between(&lent[side][3], 2, call->place))
-        return "the byte of an earlier line has changed";
-    return NULL;
+    return call->service == STEP && answer->number[0] == 0 ? step_misuse(side, call, answer) : NULL;
 }
 
 static const char *disagreement(enum side side, const struct call *call, const struct answer *answers)

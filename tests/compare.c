@@ -433,7 +433,8 @@ static void drawing_case(void)
 
 /* ---- Every service on one board, with buffers that are as long as needed and one byte short. ---- */
 
-/* Run and step, whose second buffer has room for all pairs, for one byte less and, with a lamp, for all but its pair; sheet. */
+/* Run, whose second buffer has room for all pairs, for one byte less and, with a lamp, for all but its pair; a step with room and one
+ * without; sheet. */
 static void services_on_netlist(const struct file *netlist)
 {
     static struct file rails, holds;
@@ -443,9 +444,9 @@ static void services_on_netlist(const struct file *netlist)
     const size_t room[][2] = {{lines, pairs}, {lines - 1, pairs}, {lines, pairs - 1}, {lines, outputs}};
     random_rails(&dice, contacts_of(netlist), &rails);
     random_holds(&dice, &sites, roll(&dice, 3), &holds);
-    for (unsigned k = 0; k < 8; k++) {
+    for (unsigned k = 0; k < 6; k++) {
         struct call run = {.service = k < 4 ? RUN : STEP, .place = 2 + roll(&dice, lines - 1), .count = draw_count(lines)};
-        const size_t *lent = room[k % 4];
+        const size_t *lent = room[k < 4 ? k : k == 4 ? 0 : 1 + roll(&dice, 3)];
         give(&run, 0, netlist);
         give(&run, 1, &rails);
         give(&run, 2, &holds);

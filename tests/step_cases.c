@@ -37,11 +37,12 @@ void lend_lines(struct call *call, size_t need, size_t length)
 {
     static uint8_t lines[PILGODUR_LINES_MAX + SPARE_BYTES];
     unsigned odd = chance(&dice, 50) ? 0 : 30;
-    for (size_t i = 0; i < sizeof lines; i++)
-        lines[i] = (uint8_t)roll(&dice, chance(&dice, odd) ? 256 : 2);
     lend_noise(call, LINES, need, length);
-    if (length <= sizeof lines)
-        call->content[LINES] = lines;
+    if (length > sizeof lines)
+        return;
+    for (size_t i = 0; i < length; i++)
+        lines[i] = (uint8_t)roll(&dice, chance(&dice, odd) ? 256 : 2);
+    call->content[LINES] = lines;
 }
 
 static void set_call(struct call *call, const struct file *netlist, const struct file *rails, const struct file *holds)
