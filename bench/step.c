@@ -71,9 +71,9 @@ static bool ask_for_line(struct calls *calls, const struct stepping *s)
         fprintf(stderr, "place %" PRIu32 ", lines left %u: ", s->place, lines_left(s));
         ssize_t length = getline(&calls->typed, &calls->room, stdin);
         if (length < 0) {
-            fputc('\n', stderr);
             if (ferror(stdin))
                 fail(FAILED, "standard input: %s", strerror(errno));
+            fputc('\n', stderr);
             return false;
         }
         calls->text.at = calls->typed;

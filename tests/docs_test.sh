@@ -1,6 +1,6 @@
 #!/bin/sh
 # The header, the program, README and docs/RULES.md say the same: the questions behind the refusals, the version, the examples, the
-# commands, the worked boards, the worked drawing and the worked rule sheet.
+# commands, the worked boards, the worked steps, the worked drawing and the worked rule sheet.
 #
 #     tests/docs_test.sh BENCH QUESTIONS [RESULTS]
 #

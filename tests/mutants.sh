@@ -407,7 +407,7 @@ wrong step "a prompt on standard output" 's/fprintf(stderr, "place/fprintf(stdou
 wrong step "a prompt without the place" 's/"place %" PRIu32 ", lines left %u: ", s->place, /"lines left %u: ", /'
 wrong step "a prompt with a line too many" 's/- s->place;/- s->place + 1;/'
 wrong step "a blank line is a call" 's/while (!next_line(&calls->text))/while (next_line(\&calls->text), false)/'
-wrong step "no line end after the last prompt" "s/        fputc('.n', stderr);//; s/            fputc('.n', stderr);//"
+wrong step "no line end after the last prompt" "s/            fputc('.n', stderr);//"
 wrong step "answers are shown in the end alone" 's/    show_so_far(request, out);//'
 wrong step "calls are asked for after the last line" 's/lines_left(s) > 0 && ask_for_line/ask_for_line/'
 wrong step "a wrong line ends the program on a terminal" '/^static void tell_fault/,/^}/s/if (!calls->asks)/if (true)/'

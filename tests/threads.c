@@ -85,6 +85,13 @@ static void ask(const struct board *b, struct answers *a)
     a->ruled = pilgodur_from_rules(b->rules, b->rules_length, a->table_of_rules, sizeof a->table_of_rules);
 }
 
+/* Both steps have the hold of the run, so together they are the run. */
+static bool steps_are_run(const struct answers *a)
+{
+    return a->run == 0 && a->stepped[1].refusal == 0 && a->stepped[0].place < a->stepped[1].place &&
+           memcmp(a->lines, a->stepped_lines, sizeof a->lines) == 0 && memcmp(a->pairs, a->stepped_pairs, sizeof a->pairs) == 0;
+}
+
 static void set_hold(uint8_t hold[3], unsigned line, unsigned value)
 {
     hold[0] = (uint8_t)(line / 256);
@@ -212,7 +219,7 @@ int main(int argc, char **argv)
 {
     static const char *const verdict[] = {"DIFFERENT ANSWERS", "the same answers"};
     struct dice dice = {1};
-    unsigned accepted = 0, lamps = 0, unread = 0, pins = 0, hidden = 0, drawn = 0, ruled = 0;
+    unsigned accepted = 0, lamps = 0, unread = 0, pins = 0, hidden = 0, stepped = 0, drawn = 0, ruled = 0;
     if (argc > 1)
         rounds = (unsigned)strtoul(argv[1], NULL, 10);
     for (unsigned i = 0; i < BOARDS; i++) {
@@ -223,16 +230,19 @@ int main(int argc, char **argv)
         unread += expected[i].probed.refusal == PILGODUR_REFUSAL_UNREAD;
         pins += boards[i].hold[2] > 1;
         hidden += expected[i].probed.way == PILGODUR_WAY_HIDDEN;
+        stepped += steps_are_run(&expected[i]);
         drawn += expected[i].drawn.refusal == 0;
         ruled += expected[i].ruled.refusal == 0;
     }
     bool threads_agree = run_threads();
     bool overlaps_agree = overlaps();
     printf("threads: %d threads, %d boards (%u accepted, %u netlists with a lamp, %u with a spare rail held, %u with a pin held, %u with a "
-           "hidden one, %u with a good drawing, %u with a good rule sheet), %u rounds: %s; overlapping strings: %s\n",
-           THREADS, BOARDS, accepted, lamps, unread, pins, hidden, drawn, ruled, rounds, verdict[threads_agree],
+           "hidden one, %u with a run in two steps, %u with a good drawing, %u with a good rule sheet), %u rounds: %s; "
+           "overlapping strings: %s\n",
+           THREADS, BOARDS, accepted, lamps, unread, pins, hidden, stepped, drawn, ruled, rounds, verdict[threads_agree],
            verdict[overlaps_agree]);
     bool all_kinds = accepted > BOARDS / 2 && accepted < BOARDS && lamps > 0 && lamps < BOARDS && unread > 0 &&
-                     pins > hidden && hidden > 0 && pins < BOARDS && drawn > BOARDS / 2 && drawn < BOARDS && ruled > BOARDS / 2 && ruled < BOARDS;
+                     pins > hidden && hidden > 0 && pins < BOARDS && stepped == BOARDS && drawn > BOARDS / 2 && drawn < BOARDS &&
+                     ruled > BOARDS / 2 && ruled < BOARDS;
     return threads_agree && overlaps_agree && all_kinds ? 0 : 1;
 }
