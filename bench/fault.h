@@ -1,4 +1,4 @@
-/* What is wrong with a drawing or a rule sheet, in words for a message. */
+/* What is wrong with a drawing, a rule sheet or a call, in words for a message. */
 #ifndef FAULT_H
 #define FAULT_H
 

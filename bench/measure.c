@@ -6,7 +6,7 @@
 #include <string.h>
 #include <time.h>
 
-enum { MOST_ROWS = 72, MOST_JOBS = 96 };
+enum { MOST_ROWS = 80, MOST_JOBS = 112 };
 
 struct row {
     char name[80];

@@ -100,7 +100,7 @@ enum status probe(struct request *request, FILE *out)
     show_probed(out, &probed, checked.contacts, request->lines);
     if (request->lines) {
         uint32_t netlist = 10 + 5 * checked.gates + 4 * checked.outputs;
-        show_lines(out, room + netlist, 2 + 2 * checked.contacts + checked.gates, hold, sizeof hold);
+        show_lines(out, room + netlist, 0, 2 + 2 * checked.contacts + checked.gates, hold, sizeof hold);
     }
     return ANSWERED;
 }

@@ -120,7 +120,7 @@ static bool take_sign(const char **text, char sign)
     return found;
 }
 
-void read_hold(const char *text, uint8_t *hold)
+bool is_hold(const char *text, uint8_t *hold)
 {
     uint32_t line, pin = 0, value = 0;
     const char *at = text;
@@ -129,18 +129,37 @@ void read_hold(const char *text, uint8_t *hold)
     if (of_pin)
         formed = take_number(&at, UINT8_MAX, &pin) && formed;
     if (!formed || !take_sign(&at, '=') || !take_number(&at, UINT8_MAX, &value) || *at != '\0')
-        fail(MISUSED, "%s: not a hold; write LINE=VALUE, as in 10=0, or LINE.PIN=VALUE, as in 8.1=0", text);
+        return false;
     put_hold(hold, line, pin, value);
     if (of_pin && pin != 1 && pin != 2)
         hold[2] = NO_PIN;
     else if (value > 1)
         hold[2] = NO_VALUE;
+    return true;
+}
+
+const char no_hold[] = "not a hold; write LINE=VALUE, as in 10=0, or LINE.PIN=VALUE, as in 8.1=0";
+
+void read_hold(const char *text, uint8_t *hold)
+{
+    if (!is_hold(text, hold))
+        fail(MISUSED, "%s: %s", text, no_hold);
+}
+
+const char *hold_fault(const uint8_t *hold)
+{
+    return hold[2] == NO_PIN     ? ": the pins of a gate are 1 and 2"
+           : hold[2] == NO_VALUE ? ": the value must be 0 or 1"
+                                 : "";
 }
 
 void refuse_hold(uint32_t refusal, const char *name, const char *text, const uint8_t *hold)
 {
-    const char *fault = hold[2] == NO_PIN     ? ": the pins of a gate are 1 and 2"
-                        : hold[2] == NO_VALUE ? ": the value must be 0 or 1"
-                                              : "";
-    refuse(refusal, "%s with hold %s%s", name, text, fault);
+    refuse(refusal, "%s with hold %s%s", name, text, hold_fault(hold));
+}
+
+bool is_count(const char *text, uint32_t *count)
+{
+    *count = UINT32_MAX;
+    return strcmp(text, "all") == 0 || (take_number(&text, UINT32_MAX, count) && *text == '\0');
 }

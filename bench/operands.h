@@ -1,4 +1,4 @@
-/* Inputs and holds as they are written on the command line. */
+/* Inputs, holds and counts as they are written on the command line and in files of calls. */
 #ifndef OPERANDS_H
 #define OPERANDS_H
 
@@ -45,10 +45,20 @@ struct held_text held_name(const uint8_t *hold);
 
 /* Reads LINE=VALUE, or LINE.PIN=VALUE, into three bytes. A line above 65,535 becomes that one; a value that is neither 0 nor 1, and a
  * pin that is neither 1 nor 2, become a last byte that no hold has. So question 14 refuses all of them, and none becomes another hold.
- * Text of another form ends the program. */
+ * False for text of another form. */
+bool is_hold(const char *text, uint8_t *hold);
+
+/* The same; text of another form ends the program with the message that follows the text. */
+extern const char no_hold[];
 void read_hold(const char *text, uint8_t *hold);
 
-/* Refuses a file with a hold, by its text and its bytes: says which pins and values there are, if it has another. */
+/* Which pins and values there are, if a hold has another; for a message. */
+const char *hold_fault(const uint8_t *hold);
+
+/* Refuses a file with a hold, by its text and its bytes. */
 _Noreturn void refuse_hold(uint32_t refusal, const char *name, const char *text, const uint8_t *hold);
+
+/* Reads a number, or "all", which is 4294967295, and so is any that is as large or larger. False for other text. */
+bool is_count(const char *text, uint32_t *count);
 
 #endif

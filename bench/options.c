@@ -29,6 +29,7 @@ static const struct {
     {"compare", compare, 2, 2, TAKES_ALL | TAKES_LAMP},
     {"read-off", read_off, 2, 2, 0},
     {"run", run, 2, INT_MAX, TAKES_LINES},
+    {"step", step, 2, 3, 0},
     {"probe", probe, 2, 2, TAKES_LINES},
     {"dictionary", dictionary, 1, 1, TAKES_OUTPUT | TAKES_PINS},
     {"export", export_netlist, 1, 1, TAKES_OUTPUT | TAKES_FORMAT | TAKES_LAMP},
@@ -58,6 +59,9 @@ static const char help[] =
     "  read-off TABLE INPUT            show every permit that the table gives at an input\n"
     "  run NETLIST INPUT|RAILS [HOLD...] [--lines]\n"
     "                                  run a netlist with lines and pins held; show the output pairs, and the lamp if there is one\n"
+    "  step NETLIST INPUT|RAILS [CALLS]\n"
+    "                                  step through a run, with lines and pins held in some calls; show the lines that each call\n"
+    "                                  works out, which holds have no effect, and the output pairs in the end\n"
     "  probe TABLE HOLD [--lines]      find the smallest input at which a held line or pin shows, or say that the pin is hidden\n"
     "  dictionary TABLE [--pins] [-o FILE]\n"
     "                                  probe every line at both values; write the answers as CSV; unread: nothing reads the line;\n"
@@ -67,8 +71,8 @@ static const char help[] =
     "  notes TABLE|NETLIST|DRAWING|RULES\n"
     "                                  show the notes in a file; every other command passes over them\n"
     "\n"
-    "DRAWING, RULES, TABLE, NETLIST and RAILS are files: a path, @PATH, - for standard input, or hex: and digits for the bytes\n"
-    "themselves. What draw, rules and build show is read back: a file or standard input may hold such hex: text, too.\n"
+    "DRAWING, RULES, TABLE, NETLIST, RAILS and CALLS are files: a path, @PATH, - for standard input, or hex: and digits for the\n"
+    "bytes themselves. What draw, rules and build show is read back: a file or standard input may hold such hex: text, too.\n"
     "DRAWING may also be text: the line contacts N, the line outputs NODE..., then for each node a line NODE CONTACT ZERO ONE: its\n"
     "name, the contact at which it looks, and the nodes to which it leads with that contact open and closed. A name has letters,\n"
     "digits, _, - and .; 0 and 1 are the constants; # starts a comment.\n"
@@ -80,6 +84,9 @@ static const char help[] =
     "is written @PATH there. HOLD is LINE=VALUE, as in 10=0, or LINE.1=VALUE or LINE.2=VALUE for the first or second pin of that\n"
     "line's gate, as in 8.1=0: the gate reads VALUE there in place of its first or second source. Of several holds those of lines\n"
     "stand first, rising, then those of pins by rising gate, the first before the second.\n"
+    "CALLS is text, from standard input if no file is named; a terminal is asked for it. Each line COUNT [HOLD...] is a call: it\n"
+    "works out at most COUNT lines, or all that are left if COUNT is all, from where the last one ended, the first from line 2,\n"
+    "rails like gates. A hold counts in the call that works out its line, or its pin's gate. # starts a comment.\n"
     "\n"
     "  -o, --output FILE   write the answer to FILE, whole or not at all; draw, rules and build then write the file's bytes.\n"
     "                      - is standard output. FILE must not be one of the files read.\n"

@@ -1,4 +1,4 @@
-/* The bench program: the nine services, and what can be made of them, on files. */
+/* The bench program: the ten services, and what can be made of them, on files. */
 #define _XOPEN_SOURCE 700
 #include <stdio.h>
 #include <stdlib.h>
@@ -16,21 +16,27 @@ const struct file *load_operand(struct request *request, int operand)
     return file;
 }
 
+void show_so_far(struct request *request, FILE *out)
+{
+    if (fflush(out) != 0)
+        fail(FAILED, "out of memory");
+    save(request->output, request->answer, request->answer_length, request->file, request->files);
+    rewind(out);
+}
+
 /* An answer is collected first, so that a refusal half-way leaves nothing of it on standard output or in a file. */
 int main(int argc, char **argv)
 {
     struct request request;
     command *perform = read_options(argc, argv, &request);
-    char *text = NULL;
-    size_t length = 0;
-    FILE *out = open_memstream(&text, &length);
+    FILE *out = open_memstream(&request.answer, &request.answer_length);
     if (out == NULL)
         fail(FAILED, "out of memory");
     enum status status = perform(&request, out);
     if (fclose(out) != 0)
         fail(FAILED, "out of memory");
-    save(request.output, text, length, request.file, request.files);
-    free(text);
+    save(request.output, request.answer, request.answer_length, request.file, request.files);
+    free(request.answer);
     free(request.notes);
     for (int i = 0; i < request.files; i++)
         unload(&request.file[i]);

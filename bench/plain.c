@@ -460,16 +460,21 @@ pilgodur_reading plain_read_off(const uint8_t *table, size_t table_len, uint32_t
     return (pilgodur_reading){0, word};
 }
 
-/* Works out every line of a netlist. Holds of lines stand before `pins`, the others from there on. A gate is the majority of what it
- * reads and of its kind. */
-static void run_lines(const struct netlist *n, const uint8_t *rails, const uint8_t *holds, size_t holds_len, uint8_t *lines)
+/* Works out the lines from one to before another, and sets the constants. Holds of lines stand before `pins`, the others from there on;
+ * those of earlier lines are passed over. A gate is the majority of what it reads and of its kind. */
+static void run_lines(const struct netlist *n, const uint8_t *rails, const uint8_t *holds, size_t holds_len, unsigned from,
+                      unsigned to, uint8_t *lines)
 {
-    const uint8_t *gate = n->gate;
+    const uint8_t *gate = n->gate + (from < n->first ? 0 : 5 * (from - n->first));
     size_t pins = pins_from(holds, holds_len), h = 0, p = pins;
-    for (unsigned line = 0; line < n->lines; line++) {
-        if (line < 2) {
-            lines[line] = (uint8_t)line;
-        } else if (line < n->first) {
+    lines[0] = 0;
+    lines[1] = 1;
+    while (h < pins && two_bytes(holds + h) < from)
+        h += 3;
+    while (p < holds_len && two_bytes(holds + p) < from)
+        p += 3;
+    for (unsigned line = from; line < to; line++) {
+        if (line < n->first) {
             lines[line] = rails[line - 2];
         } else {
             uint8_t a = lines[two_bytes(gate + 1)];
@@ -486,27 +491,62 @@ static void run_lines(const struct netlist *n, const uint8_t *rails, const uint8
     }
 }
 
+static void write_pairs(const struct netlist *n, const uint8_t *lines, uint8_t *pairs)
+{
+    for (unsigned j = 0; j < pair_count(n); j++) {
+        pairs[2 * j] = lines[two_bytes(pair_at(n, j))];
+        pairs[2 * j + 1] = lines[two_bytes(pair_at(n, j) + 2)];
+    }
+}
+
+/* Questions 11 to 14, 21 and 9. */
+static uint32_t read_run(const uint8_t *netlist, size_t netlist_len, const uint8_t *rails, size_t rails_len, const uint8_t *holds,
+                         size_t holds_len, uint32_t place, size_t lines_len, size_t pairs_len, struct netlist *n)
+{
+    if (!netlist_fields(netlist, netlist_len, n))
+        return 11;
+    if (!netlist_lines(n))
+        return 12;
+    if (rails_len != n->first - 2 || !all_below(rails, n->first - 2, 2))
+        return 13;
+    if (!holds_good(holds, holds_len, n->first, n->lines))
+        return 14;
+    if (place < 2 || place > n->lines)
+        return 21;
+    return lines_len < n->lines || pairs_len < 2 * pair_count(n) ? 9 : 0;
+}
+
 uint32_t plain_run(const uint8_t *netlist, size_t netlist_len, const uint8_t *rails, size_t rails_len,
                    const uint8_t *holds, size_t holds_len, uint8_t *lines, size_t lines_len,
                    uint8_t *pairs, size_t pairs_len)
 {
     struct netlist n;
-    if (!netlist_fields(netlist, netlist_len, &n))
-        return 11;
-    if (!netlist_lines(&n))
-        return 12;
-    if (rails_len != n.first - 2 || !all_below(rails, n.first - 2, 2))
-        return 13;
-    if (!holds_good(holds, holds_len, n.first, n.lines))
-        return 14;
-    if (lines_len < n.lines || pairs_len < 2 * pair_count(&n))
-        return 9;
-    run_lines(&n, rails, holds, holds_len, lines);
-    for (unsigned j = 0; j < pair_count(&n); j++) {
-        pairs[2 * j] = lines[two_bytes(pair_at(&n, j))];
-        pairs[2 * j + 1] = lines[two_bytes(pair_at(&n, j) + 2)];
-    }
+    uint32_t refusal = read_run(netlist, netlist_len, rails, rails_len, holds, holds_len, 2, lines_len, pairs_len, &n);
+    if (refusal != 0)
+        return refusal;
+    run_lines(&n, rails, holds, holds_len, 2, n.lines, lines);
+    write_pairs(&n, lines, pairs);
     return 0;
+}
+
+/* The earlier lines are read into `value`, where every byte but 0 is 1. */
+pilgodur_stepped plain_step(const uint8_t *netlist, size_t netlist_len, const uint8_t *rails, size_t rails_len,
+                            const uint8_t *holds, size_t holds_len, uint32_t place, uint32_t count,
+                            uint8_t *lines, size_t lines_len, uint8_t *pairs, size_t pairs_len)
+{
+    struct netlist n;
+    uint32_t refusal = read_run(netlist, netlist_len, rails, rails_len, holds, holds_len, place, lines_len, pairs_len, &n);
+    if (refusal != 0)
+        return (pilgodur_stepped){refusal, 0};
+    unsigned to = count < n.lines - place ? place + count : n.lines;
+    for (unsigned line = 2; line < place; line++)
+        value[line] = lines[line] != 0;
+    run_lines(&n, rails, holds, holds_len, place, to, value);
+    memcpy(lines, value, 2);
+    memcpy(lines + place, value + place, to - place);
+    if (to == n.lines)
+        write_pairs(&n, value, pairs);
+    return (pilgodur_stepped){0, to};
 }
 
 /* Question 15. */

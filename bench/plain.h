@@ -1,4 +1,4 @@
-/* The same nine services in plain C, byte by byte, for the benchmark to measure against. Not for use from several threads. */
+/* The same ten services in plain C, byte by byte, for the benchmark to measure against. Not for use from several threads. */
 #ifndef PLAIN_H
 #define PLAIN_H
 
@@ -11,6 +11,9 @@ pilgodur_reading plain_read_off(const uint8_t *table, size_t table_len, uint32_t
 uint32_t plain_run(const uint8_t *netlist, size_t netlist_len, const uint8_t *rails, size_t rails_len,
                    const uint8_t *holds, size_t holds_len, uint8_t *lines, size_t lines_len,
                    uint8_t *pairs, size_t pairs_len);
+pilgodur_stepped plain_step(const uint8_t *netlist, size_t netlist_len, const uint8_t *rails, size_t rails_len,
+                            const uint8_t *holds, size_t holds_len, uint32_t place, uint32_t count,
+                            uint8_t *lines, size_t lines_len, uint8_t *pairs, size_t pairs_len);
 pilgodur_probed plain_probe(const uint8_t *table, size_t table_len, const uint8_t *hold, size_t hold_len,
                             uint8_t *buffer, size_t buffer_len);
 pilgodur_built plain_sheet(const uint8_t *netlist, size_t netlist_len, uint8_t *text, size_t text_len);

@@ -22,6 +22,12 @@ static void say(const char *format, va_list args)
 {
     fprintf(stderr, "%s: ", program_name);
     vfprintf(stderr, format, args);
+    va_end(args);
+}
+
+static void say_refused(uint32_t refusal)
+{
+    fprintf(stderr, ": refused, number %" PRIu32 ": %s No.\n", refusal, question_of(refusal));
 }
 
 void fail(enum status status, const char *format, ...)
@@ -29,7 +35,6 @@ void fail(enum status status, const char *format, ...)
     va_list args;
     va_start(args, format);
     say(format, args);
-    va_end(args);
     fputc('\n', stderr);
     exit(status);
 }
@@ -39,7 +44,22 @@ void refuse(uint32_t refusal, const char *format, ...)
     va_list args;
     va_start(args, format);
     say(format, args);
-    va_end(args);
-    fprintf(stderr, ": refused, number %" PRIu32 ": %s No.\n", refusal, question_of(refusal));
+    say_refused(refusal);
     exit(SAID_NO);
+}
+
+void tell(const char *format, ...)
+{
+    va_list args;
+    va_start(args, format);
+    say(format, args);
+    fputc('\n', stderr);
+}
+
+void tell_refusal(uint32_t refusal, const char *format, ...)
+{
+    va_list args;
+    va_start(args, format);
+    say(format, args);
+    say_refused(refusal);
 }

@@ -1,4 +1,4 @@
-/* Exit statuses, and messages on standard error that end the program. */
+/* Exit statuses, and messages on standard error; most of them end the program. */
 #ifndef REPORT_H
 #define REPORT_H
 
@@ -21,5 +21,11 @@ _Noreturn void fail(enum status status, const char *format, ...);
 /* The same for a refusal: the message names what is refused, and the question with its number follows. */
 __attribute__((format(printf, 2, 3)))
 _Noreturn void refuse(uint32_t refusal, const char *format, ...);
+
+/* The same two messages, and the program goes on. */
+__attribute__((format(printf, 1, 2)))
+void tell(const char *format, ...);
+__attribute__((format(printf, 2, 3)))
+void tell_refusal(uint32_t refusal, const char *format, ...);
 
 #endif

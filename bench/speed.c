@@ -20,17 +20,19 @@ static const struct {
     pilgodur_reading (*read_off)(const uint8_t *, size_t, uint32_t);
     uint32_t (*run)(const uint8_t *, size_t, const uint8_t *, size_t, const uint8_t *, size_t, uint8_t *, size_t, uint8_t *,
                     size_t);
+    pilgodur_stepped (*step)(const uint8_t *, size_t, const uint8_t *, size_t, const uint8_t *, size_t, uint32_t, uint32_t, uint8_t *,
+                             size_t, uint8_t *, size_t);
     pilgodur_probed (*probe)(const uint8_t *, size_t, const uint8_t *, size_t, uint8_t *, size_t);
     writer *sheet;
     writer *from_drawing;
     writer *from_rules;
 } services[SIDES] = {
-    [PLAIN] = {plain_check, plain_build, plain_build_with_lamp, plain_read_off, plain_run, plain_probe, plain_sheet,
-               plain_from_drawing, plain_from_rules},
-    [TUNED] = {tuned_check, tuned_build, tuned_build_with_lamp, tuned_read_off, tuned_run, tuned_probe, tuned_sheet,
-               tuned_from_drawing, tuned_from_rules},
-    [LIBRARY] = {pilgodur_check, pilgodur_build, pilgodur_build_with_lamp, pilgodur_read_off, pilgodur_run, pilgodur_probe,
-                 pilgodur_sheet, pilgodur_from_drawing, pilgodur_from_rules},
+    [PLAIN] = {plain_check, plain_build, plain_build_with_lamp, plain_read_off, plain_run, plain_step, plain_probe,
+               plain_sheet, plain_from_drawing, plain_from_rules},
+    [TUNED] = {tuned_check, tuned_build, tuned_build_with_lamp, tuned_read_off, tuned_run, tuned_step, tuned_probe,
+               tuned_sheet, tuned_from_drawing, tuned_from_rules},
+    [LIBRARY] = {pilgodur_check, pilgodur_build, pilgodur_build_with_lamp, pilgodur_read_off, pilgodur_run, pilgodur_step,
+                 pilgodur_probe, pilgodur_sheet, pilgodur_from_drawing, pilgodur_from_rules},
 };
 
 static uint64_t write_by(writer *service, enum side side, const uint8_t *file, size_t length)
@@ -87,6 +89,37 @@ static uint64_t do_run_noted(enum side side, const struct job *j)
     return run(side, j, j->noted, j->noted_length);
 }
 
+static uint64_t step(enum side side, const struct job *j, uint32_t place, uint32_t count)
+{
+    pilgodur_stepped r = services[side].step(j->netlist, j->netlist_length, j->rails, 2 * j->contacts, j->holds, j->holds_length, place,
+                                             count, written[side], PILGODUR_LINES_MAX, written[side] + PILGODUR_LINES_MAX,
+                                             PILGODUR_PAIRS_MAX);
+    return r.refusal + 100 * (uint64_t)r.place;
+}
+
+/* A whole run in one call. */
+static uint64_t do_step(enum side side, const struct job *j)
+{
+    return step(side, j, 2, UINT32_MAX);
+}
+
+enum { SPREAD = 32 };
+
+/* The line that is so far along when SPREAD lines are spread evenly. */
+static unsigned spread_line(const struct job *j, unsigned k)
+{
+    return 2 + k * (j->lines - 2) / SPREAD;
+}
+
+/* Lines spread evenly over the netlist, each by itself. */
+static uint64_t do_step_lines(enum side side, const struct job *j)
+{
+    uint64_t sum = 0;
+    for (unsigned k = 0; k < SPREAD; k++)
+        sum = 3 * sum + step(side, j, spread_line(j, k), 1);
+    return sum;
+}
+
 static uint64_t probe(enum side side, const struct job *j, const uint8_t *hold)
 {
     pilgodur_probed r = services[side].probe(j->table, j->table_length, hold, 3, written[side], BUFFER);
@@ -98,8 +131,6 @@ static uint64_t do_probe(enum side side, const struct job *j)
     return probe(side, j, j->hold);
 }
 
-enum { SPREAD = 32 };
-
 /* Lines spread evenly over the board, each at both values. */
 static uint64_t do_probe_lines(enum side side, const struct job *j)
 {
@@ -107,7 +138,7 @@ static uint64_t do_probe_lines(enum side side, const struct job *j)
     uint64_t sum = 0;
     for (unsigned k = 0; k < SPREAD; k++)
         for (unsigned value = 0; value < 2; value++) {
-            set_hold(hold, 2 + k * (j->lines - 2) / SPREAD, value);
+            set_hold(hold, spread_line(j, k), value);
             sum = 31 * sum + probe(side, j, hold);
         }
     return sum;
@@ -189,7 +220,7 @@ static void add_board_runs(void)
 
 /* Four netlists in turn: a processor may remember how the branches went in the gates of one, and not of all. So many percent of the
  * lines are held, or of the pins if some are. */
-static void add_random_netlists(const char *name, work *work, unsigned lines, unsigned pins)
+static void add_random_netlists(const char *name, work *work, unsigned units, unsigned lines, unsigned pins)
 {
     for (unsigned k = 0; k < 4; k++) {
         use_random_netlist(MOST_GATES);
@@ -197,7 +228,7 @@ static void add_random_netlists(const char *name, work *work, unsigned lines, un
         if (pins > 0)
             hold_pins(pins, 2);
         if (k == 0)
-            add_row(name, work, 1);
+            add_row(name, work, units);
         else
             add_job();
     }
@@ -210,12 +241,37 @@ static void add_runs(void)
     use_random_netlist(660);
     add_row("run, 660 gates, no line held", do_run, 1);
     add_board_runs();
-    add_random_netlists("run, 10,560 gates, 4 netlists, no line held", do_run, 0, 0);
-    add_random_netlists("run, 10,560 gates, 4 netlists, half of the lines held", do_run, 50, 0);
-    add_random_netlists("run, 10,560 gates, 4 netlists, all lines held", do_run, 100, 0);
+    add_random_netlists("run, 10,560 gates, 4 netlists, no line held", do_run, 1, 0, 0);
+    add_random_netlists("run, 10,560 gates, 4 netlists, half of the lines held", do_run, 1, 50, 0);
+    add_random_netlists("run, 10,560 gates, 4 netlists, all lines held", do_run, 1, 100, 0);
     struct dice before = dice;
-    add_random_netlists("run, 10,560 gates, 4 netlists, half of the pins held", do_run, 0, 50);
+    add_random_netlists("run, 10,560 gates, 4 netlists, half of the pins held", do_run, 1, 0, 50);
     dice = before; /* the other files are what they are without this row */
+}
+
+/* A whole run in one call, and calls of one line each. */
+static void add_both_steps(const char *name)
+{
+    add_row(label("step, %s, one call", name), do_step, 1);
+    add_row(label("step, %s, a line a call", name), do_step_lines, SPREAD);
+}
+
+/* On the first netlists of the runs, drawn with these dice, and on others of the largest size. */
+static void add_steps(struct dice of_runs)
+{
+    struct dice before = dice;
+    char board[40];
+    dice = of_runs;
+    use_random_netlist(0);
+    add_both_steps("no gates");
+    use_random_netlist(660);
+    add_both_steps("660 gates");
+    use_largest_board(12);
+    snprintf(board, sizeof board, "board of %u gates", job.gates);
+    add_both_steps(board);
+    add_random_netlists("step, 10,560 gates, 4 netlists, one call", do_step, 1, 0, 0);
+    add_random_netlists("step, 10,560 gates, 4 netlists, a line a call", do_step_lines, SPREAD, 0, 0);
+    dice = before; /* the other files are what they are without these rows */
 }
 
 static void add_hidden(void)
@@ -264,7 +320,7 @@ static void add_sheets(void)
     add_row("sheet, 660 gates", do_sheet, 1);
     use_largest_board(12);
     add_row(label("sheet, board of %u gates", job.gates), do_sheet, 1);
-    add_random_netlists("sheet, 10,560 gates, 4 netlists", do_sheet, 0, 0);
+    add_random_netlists("sheet, 10,560 gates, 4 netlists", do_sheet, 1, 0, 0);
 }
 
 static void add_drawings(void)
@@ -339,13 +395,16 @@ int main(void)
 {
     printf("Processor time for one call in microseconds, in the fastest of %d rounds, and the library's time divided by\n"
            "the others': below 1 the library is faster. \"seen at\": the held line that shows latest of all, at this input.\n"
-           "\"a hidden pin\": no input shows it. \"mean\": over %d lines spread evenly, each at both values. \"alike until\n"
-           "late\": the functions differ only in values that come last.\n\n", ROUNDS, SPREAD);
+           "\"a hidden pin\": no input shows it. \"mean\": over %d lines spread evenly, each at both values; \"a line a call\":\n"
+           "over as many, each worked out by itself. \"alike until late\": the functions differ only in values that come last.\n\n",
+           ROUNDS, SPREAD);
     fflush(stdout);
     add_tables(12);
     add_tables(6);
     add_tables(2);
+    struct dice of_runs = dice;
     add_runs();
+    add_steps(of_runs);
     add_probes();
     add_sheets();
     add_drawings();

@@ -1,4 +1,4 @@
-/* Text in lines, with blanks and comments: what the text forms of drawings and of rule sheets share. */
+/* Text in lines, with blanks and comments: what the text forms of drawings, of rule sheets and of calls share. */
 #ifndef TEXT_H
 #define TEXT_H
 

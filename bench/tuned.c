@@ -382,7 +382,7 @@ pilgodur_reading tuned_read_off(const uint8_t *table, size_t table_len, uint32_t
     return (pilgodur_reading){0, word};
 }
 
-/* ---- Run: the gates are checked and worked out in one pass, into an array aside; no branch hangs on a value. ---- */
+/* ---- Step and run: the gates are checked and worked out in one pass, into an array aside; no branch hangs on a value. ---- */
 
 /* A netlist whose gates and pairs are read where the caller's bytes stand. */
 struct netlist {
@@ -468,10 +468,19 @@ static bool take_holds(const uint8_t *holds, size_t length, unsigned first, unsi
     return true;
 }
 
-/* Works out the gates as long as they are good. */
-static bool work_out(const uint8_t *gate, unsigned first, unsigned count, const uint8_t *truth, uint8_t *value)
+/* Question 12 of the gates from a line on. */
+static bool gates_good(const uint8_t *gate, unsigned from, unsigned to)
 {
-    for (unsigned line = first; line < count; line++, gate += 5) {
+    for (unsigned line = from; line < to; line++, gate += 5)
+        if (gate[0] > 1 || two_bytes(gate + 1) >= line || two_bytes(gate + 3) >= line)
+            return false;
+    return true;
+}
+
+/* The same, and works them out as long as they are good. */
+static bool work_out(const uint8_t *gate, unsigned from, unsigned to, const uint8_t *truth, uint8_t *value)
+{
+    for (unsigned line = from; line < to; line++, gate += 5) {
         unsigned left = two_bytes(gate + 1), right = two_bytes(gate + 3);
         if (gate[0] > 1 || left >= line || right >= line)
             return false;
@@ -480,35 +489,53 @@ static bool work_out(const uint8_t *gate, unsigned first, unsigned count, const 
     return true;
 }
 
-/* Question 12 is asked while the lines are worked out; so 13, 14 and 9 are asked before, and answered after it. */
-uint32_t tuned_run(const uint8_t *netlist, size_t netlist_len, const uint8_t *rails, size_t rails_len,
-                   const uint8_t *holds, size_t holds_len, uint8_t *lines, size_t lines_len,
-                   uint8_t *pairs, size_t pairs_len)
+/* Question 12 is asked while the lines are worked out; so 13, 14, 21 and 9 are asked before, and answered after it. Where the place, the
+ * rails or the first buffer are no good no line is worked out. */
+pilgodur_stepped tuned_step(const uint8_t *netlist, size_t netlist_len, const uint8_t *rails, size_t rails_len,
+                            const uint8_t *holds, size_t holds_len, uint32_t place, uint32_t count,
+                            uint8_t *lines, size_t lines_len, uint8_t *pairs, size_t pairs_len)
 {
     uint8_t value[PILGODUR_LINES_MAX], truth[PILGODUR_LINES_MAX];
     struct netlist n;
     if (!netlist_fields(netlist, netlist_len, &n))
-        return 11;
-    unsigned first = 2 + 2 * n.contacts, count = first + n.gates;
-    bool driven = rails_len == first - 2 && rails_good(rails, first - 2);
-    memset(truth, MAJORITY, count);
-    bool ordered = take_holds(holds, holds_len, first, count, truth);
+        return (pilgodur_stepped){11, 0};
+    unsigned first = 2 + 2 * n.contacts, all = first + n.gates;
+    bool driven = rails_len == first - 2 && rails_good(rails, first - 2), placed = place - 2 <= all - 2;
+    bool works = driven && placed && lines_len >= all;
+    unsigned from = works ? place : all, to = works && count < all - place ? place + count : all;
+    memset(truth, MAJORITY, all);
+    bool ordered = take_holds(holds, holds_len, first, all, truth);
     value[0] = 0;
     value[1] = 1;
-    for (unsigned line = 2; line < first; line++)
-        value[line] = truth[line] >> (driven ? 7 * rails[line - 2] : 0) & 1;
-    if (!work_out(n.gate, first, count, truth, value) || !pairs_good(&n, count))
-        return 12;
+    for (unsigned line = 2; works && line < from; line++)
+        value[line] = lines[line] != 0;
+    for (unsigned line = from; line < first && line < to; line++)
+        value[line] = truth[line] >> 7 * rails[line - 2] & 1;
+    unsigned gate = larger(from, first), rest = larger(to, first); /* the first gates worked out, and after that */
+    if (!gates_good(n.gate, first, gate) || !work_out(n.gate + 5 * (gate - first), gate, to, truth, value) ||
+        !gates_good(n.gate + 5 * (rest - first), rest, all) || !pairs_good(&n, all))
+        return (pilgodur_stepped){12, 0};
     if (!driven || !ordered)
-        return driven ? 14 : 13;
-    if (lines_len < count || pairs_len < 2 * (n.outputs + (n.lamp != NULL)))
-        return 9;
-    memcpy(lines, value, count);
-    for (unsigned k = 0; k < 2 * n.outputs; k++)
+        return (pilgodur_stepped){driven ? 14 : 13, 0};
+    if (!placed)
+        return (pilgodur_stepped){21, 0};
+    if (!works || pairs_len < 2 * (n.outputs + (n.lamp != NULL)))
+        return (pilgodur_stepped){9, 0};
+    memcpy(lines, value, 2);
+    memcpy(lines + from, value + from, to - from);
+    for (unsigned k = 0; to == all && k < 2 * n.outputs; k++)
         pairs[k] = value[two_bytes(n.output + 2 * k)];
-    for (unsigned k = 0; n.lamp != NULL && k < 2; k++)
+    for (unsigned k = 0; to == all && n.lamp != NULL && k < 2; k++)
         pairs[2 * n.outputs + k] = value[two_bytes(n.lamp + 2 * k)];
-    return 0;
+    return (pilgodur_stepped){0, to};
+}
+
+uint32_t tuned_run(const uint8_t *netlist, size_t netlist_len, const uint8_t *rails, size_t rails_len,
+                   const uint8_t *holds, size_t holds_len, uint8_t *lines, size_t lines_len,
+                   uint8_t *pairs, size_t pairs_len)
+{
+    return tuned_step(netlist, netlist_len, rails, rails_len, holds, holds_len, 2, UINT32_MAX, lines, lines_len, pairs,
+                      pairs_len).refusal;
 }
 
 /* ---- Probe: words of 64 inputs. ---- */
@@ -736,16 +763,6 @@ static uint64_t gate_word(const uint8_t *gate)
     uint64_t bytes;
     memcpy(&bytes, gate, 8);
     return __builtin_bswap64(bytes) >> 24;
-}
-
-static bool gates_good(const uint8_t *gate, unsigned first, unsigned count)
-{
-    bool bad = false;
-    for (unsigned line = first; line < count; line++, gate += 5) {
-        uint64_t word = gate_word(gate);
-        bad |= (word >> 33 != 0) | ((word >> 16 & 0xffff) >= line) | ((word & 0xffff) >= line);
-    }
-    return !bad;
 }
 
 /* Writes the gates' rows, page by page. */

@@ -1,4 +1,4 @@
-/* The same nine services in C written for speed, for the benchmark to measure against. For little-endian machines. */
+/* The same ten services in C written for speed, for the benchmark to measure against. For little-endian machines. */
 #ifndef TUNED_H
 #define TUNED_H
 
@@ -11,6 +11,9 @@ pilgodur_reading tuned_read_off(const uint8_t *table, size_t table_len, uint32_t
 uint32_t tuned_run(const uint8_t *netlist, size_t netlist_len, const uint8_t *rails, size_t rails_len,
                    const uint8_t *holds, size_t holds_len, uint8_t *lines, size_t lines_len,
                    uint8_t *pairs, size_t pairs_len);
+pilgodur_stepped tuned_step(const uint8_t *netlist, size_t netlist_len, const uint8_t *rails, size_t rails_len,
+                            const uint8_t *holds, size_t holds_len, uint32_t place, uint32_t count,
+                            uint8_t *lines, size_t lines_len, uint8_t *pairs, size_t pairs_len);
 pilgodur_probed tuned_probe(const uint8_t *table, size_t table_len, const uint8_t *hold, size_t hold_len,
                             uint8_t *buffer, size_t buffer_len);
 pilgodur_built tuned_sheet(const uint8_t *netlist, size_t netlist_len, uint8_t *text, size_t text_len);

@@ -74,9 +74,9 @@
 extern "C" {
 #endif
 
-#define PILGODUR_VERSION "2.5.0"
+#define PILGODUR_VERSION "2.6.0"
 #define PILGODUR_VERSION_MAJOR 2
-#define PILGODUR_VERSION_MINOR 5
+#define PILGODUR_VERSION_MINOR 6
 #define PILGODUR_VERSION_PATCH 0
 
 /* The first tag of notes; the last is 255. */
@@ -111,7 +111,8 @@ extern "C" {
     Q(18, PILGODUR_REFUSAL_RULES, "Does the rule sheet have whole fields of tags 1 and 8, then 1 to 64 of tag 9, in that order and no " \
       "more, tag 1 as in question 2, tag 8 of length 1 and value 1 to 8, each tag 9 of n bytes from 0 to 2 and a word below 2^m?") \
     Q(19, PILGODUR_REFUSAL_SHARED, "Does no input fit two rules?") \
-    Q(20, PILGODUR_REFUSAL_UNRULED, "Does every input fit a rule?")
+    Q(20, PILGODUR_REFUSAL_UNRULED, "Does every input fit a rule?") \
+    Q(21, PILGODUR_REFUSAL_PLACE, "Is the place a line from 2 up that is in the netlist, or the line after the last?")
 
 #define PILGODUR_REFUSAL_(number, name, text) name = number,
 enum pilgodur_refusal { PILGODUR_REFUSAL_NONE = 0, PILGODUR_QUESTIONS(PILGODUR_REFUSAL_) };
@@ -133,6 +134,7 @@ typedef struct { uint32_t refusal, contacts, outputs, gates, depth; } pilgodur_c
 typedef struct { uint32_t refusal, length; } pilgodur_built;
 typedef struct { uint32_t refusal, word; } pilgodur_reading;
 typedef struct { uint32_t refusal, input, output, way; } pilgodur_probed;
+typedef struct { uint32_t refusal, place; } pilgodur_stepped;
 
 /* Checks a table. Questions 1 to 7. Returns its contacts and outputs, and the gates and depth of its netlist, without the lamp. A
  * rail or constant has depth 0, a gate one more than its deeper source; the netlist's depth is its largest. */
@@ -161,6 +163,22 @@ pilgodur_reading pilgodur_read_off(const uint8_t *table, size_t table_len, uint3
 uint32_t pilgodur_run(const uint8_t *netlist, size_t netlist_len, const uint8_t *rails, size_t rails_len,
                       const uint8_t *holds, size_t holds_len, uint8_t *lines, size_t lines_len,
                       uint8_t *pairs, size_t pairs_len);
+
+/* Steps through a run: works out some lines in each call, rails like gates, with a hold list for each call. Questions 11 to 14, then 21,
+ * then 9 for either buffer, which needs in every call what it needs in a run.
+ *   place  the next line to work out: 2 at the start, then what the call before returned.
+ *   count  how many lines to work out at most; place + count may pass 2^32.
+ *   lines  the lines so far. Gets the constants' two bytes and the values of the lines worked out, held ones as held; every other byte
+ *          stays. A byte before place that is neither 0 nor 1 is read as 1 by gates and pairs.
+ *   pairs  gets what it gets in a run exactly if the place returned is the line after the last; else all its bytes stay. It may be
+ *          another buffer in each call.
+ * Returns the place plus count, or the line after the last if that is less. A count of 0 works out nothing. A line or pin is held
+ * exactly if the list of the call that works out that line, or that pin's gate, has a hold of it; other holds have no effect. With the
+ * same netlist and rails throughout, and each call given the place and the lines that the last accepted one left, lines and pairs are
+ * in the end those of one run with just the holds that had effect. */
+pilgodur_stepped pilgodur_step(const uint8_t *netlist, size_t netlist_len, const uint8_t *rails, size_t rails_len,
+                               const uint8_t *holds, size_t holds_len, uint32_t place, uint32_t count,
+                               uint8_t *lines, size_t lines_len, uint8_t *pairs, size_t pairs_len);
 
 /* Probes one line or pin of a table's board, without the lamp. Questions 1 to 7, then 14, 15 and 9; a pin never gives 15. hold is one
  * hold, three bytes. Returns the smallest code input at which it makes some pair 00 or 11, the lowest such output there, and the way

@@ -635,6 +635,93 @@ done
 try run selector.netlist 0 8=0 8.1
 judge
 
+transcript step
+# steps CALLS ARGUMENT...: steps with calls from standard input, as printf writes them.
+steps() {
+    calls=$1
+    shift
+    pipe "printf '$calls' | pilgodur step $*"
+}
+# A line held in time; one held too early and too late.
+steps '6\n3 10=1 16=0\nall 8=1\n' selector.netlist contacts:110
+steps '# rails\n  6\n\n3\t10=1 16=0 # held\r\n   # nothing\nall  8=1' selector.netlist 3
+pipe 'printf "6\n3 10=1\n" >calls; printf "all\n" >>calls; pilgodur step selector.netlist 3 calls'
+pipe 'pilgodur step selector.netlist 3 @calls | cksum'
+pipe 'pilgodur step selector.netlist 3 - <calls | cksum'
+pipe 'pilgodur step selector.netlist 3 <calls | cksum'
+try step selector.netlist 3 hex:360a3320313d300a
+try step selector.netlist 3 hex:360a332031303d310a616c6c
+# How many lines: one at a time, none, just all, more, and so many that their sum with the place is 2^32 or more.
+pipe 'yes 1 | head -n 15 | pilgodur step selector.netlist 6'
+steps '0\n0 2=1\n1\n0 3=1\nall\n' "$(netlist 1 '' '2 3')" 1
+for count in 4 5 all 4294967292 4294967294 4294967295 4294967296 18446744073709551616 004; do
+    steps "$count 3=1\n" "$(netlist 1 'AND 2 3 OR 4 2' '5 4')" 1
+done
+# After the last line the pairs are shown again, and no hold has any effect.
+steps 'all 16=0\n0\n5 2=0 16=1\nall 8.1=0\n' selector.netlist 3
+# The calls end before the lines do.
+try step selector.netlist 3
+steps '' selector.netlist 3
+steps '# nothing\n\n' selector.netlist 3
+steps '14\n' selector.netlist 3
+steps '2' selector.netlist hex:010001000100
+# A rail, a line and the pins of its gate, in time, too early, too late, and in two calls at different values.
+steps '2 2=1 3=1 4=1\n4 2=0 4=0 8=1\nall 4=1\n' selector.netlist 0
+steps '6 8.1=0 9.2=0\n2 8.1=0 9.2=0\nall 8.1=0 9.2=0\n' selector.netlist 0
+steps '7 8=1 8.1=0 8.2=0\n1 8=1 9=0 9.1=1 9.2=1\nall 8=0 9=1 16=0 9.1=0 16.2=1\n' selector.netlist 1
+steps '8 008.02=01 9.1=1\nall\n' selector.netlist 2
+steps '10 10=0\nall 10=1\n' selector.netlist 6
+steps '8 10=0\n1 10=1\nall 10=0\n' selector.netlist 6
+# Constants as sources and outputs; odd rails; a lamp.
+steps '3\n1\n1\n1\n' "$(netlist 1 'AND 1 2 OR 4 0 OR 1 1' '0 1 5 6')" 1
+pipe 'printf "\0\001\0\001\0\001" >3; printf "all 4=1" | pilgodur step selector.netlist @3'
+steps '20 11=1\n10\nall 30=0 33.2=1\n' lift-lamp.netlist 5
+# Just the holds that counted are those of one run.
+pipe 'printf "1000 1384=1 100.1=1\n382 100=1 1383=0\n1 1383=1 1384=1\n100 1384=0 1500=0\nall 1500=1 1500.1=0\n" >widest.calls
+    pilgodur step widest.netlist 4095 widest.calls >stepped; grep -c "no effect" stepped; cksum <stepped
+    grep "^ *[0-9][0-9]* " stepped >rows; tail -n 8 stepped >>rows
+    pilgodur run widest.netlist 4095 1383=0 1384=1 1500=1 100.1=1 1500.1=0 --lines >ran
+    { grep "^ *[0-9][0-9]* " ran | tail -n +3; sed -n 2,9p ran; } | cmp - rows'
+# Lines that are no calls.
+for line in x -1 +1 1.5 10=0 ALL '3 8' '3 8=' '3 8.1' '3 8=0x' '3, 8=0' 'all all' '3 8=0;' '3 8:1=0' '0x3' '3 _' '1e3' '= 8=0'; do
+    steps "6\n\n# two\n$line\nall\n" selector.netlist 3
+done
+steps '6\n3 \000\n' selector.netlist 3
+steps '6\n3 \033[31m\n' selector.netlist 3
+steps '\357\273\2776\n' selector.netlist 3
+pipe '{ printf "6\n1"; head -c 60 /dev/zero | tr "\0" x; } | pilgodur step selector.netlist 3'
+pipe '{ printf "6\n1 "; head -c 60 /dev/zero | tr "\0" 0; } | pilgodur step selector.netlist 3'
+try step selector.netlist 3 selector.table
+# Question 14, in any call, whichever lines it works out.
+for holds in 1=0 17=0 8=2 8.3=0 2.1=0 '16=1 14=0' '8.1=0 8=0' '9.1=0 8.2=0' 65544=0 '8=0 16=1 8.1=0 9.2=1 7.1=0' '8=0 8.1=0 9.2=2'; do
+    steps "6\n# two\n3 $holds\n" selector.netlist 3
+done
+steps 'all\n0 17=0\n' selector.netlist 3
+steps '5\n0 8.1=0\n' "$(netlist 1 '' '2 3')" 0
+# What is wrong before the calls are read.
+for operands in "$q11 3" "$q12 3" 'selector.table 3' 'selector.netlist 8' 'selector.netlist contacts:11' 'selector.netlist hex:0001' \
+    'selector.netlist hex:000100010002' 'selector.netlist 0x3' 'selector.netlist no-such.rails' 'selector.netlist contacts:x'; do
+    steps 'x\n' $operands
+done
+try step selector.netlist 3 no-such.calls
+try step selector.netlist 3 .
+try step no-such.netlist 3 no-such.calls
+try step selector.netlist 0x3 no-such.calls
+pipe 'pilgodur build selector.table | pilgodur step - 3 calls | cksum'
+pipe 'printf "\0\001\0\001\0\001" | pilgodur step selector.netlist - calls | tail -n 1'
+try step - 3
+try step selector.netlist -
+try step - 3 -
+try step selector.netlist - -
+try step selector.netlist
+try step selector.netlist 3 calls calls
+try step selector.netlist 3 calls --lines
+try step selector.netlist 3 calls -o out
+pipe 'pilgodur step selector.netlist 3 calls >>calls'
+pipe 'pilgodur step selector.netlist @3 calls >>3'
+pipe 'pilgodur step selector.netlist 3 - <&-'
+judge
+
 transcript probe
 try probe selector.table 10=0
 try probe selector.table 10=1
@@ -864,6 +951,7 @@ try probe noted-spare.table 2=0
 pipe 'pilgodur dictionary noted.table --pins >noted.csv; pilgodur dictionary selector.table --pins | cmp - noted.csv'
 try probe noted.table 9.1=1
 try run noted.netlist 2 8.2=1
+pipe 'printf "9 10=0\n8\n" | pilgodur step noted.netlist 6'
 for format in --blif --verilog --dot; do
     pipe "pilgodur export noted-lamp.netlist $format >noted.out; pilgodur export lift.table --lamp $format | cmp - noted.out"
     pipe "pilgodur export noted.table $format >noted.out; pilgodur export selector.table $format | cmp - noted.out"
@@ -920,8 +1008,8 @@ try build $q6 --note x
 try build selector.table --note
 try build --note selector.table
 for command in 'draw gallery.drawing' 'check single.table' 'list single.table' 'compare single.table single.table' \
-    'read-off single.table 0' 'run selector.netlist 3' 'probe single.table 2=1' 'dictionary single.table' 'export single.table --dot' \
-    'notes single.table'; do
+    'read-off single.table 0' 'run selector.netlist 3' 'step selector.netlist 3' 'probe single.table 2=1' 'dictionary single.table' \
+    'export single.table --dot' 'notes single.table'; do
     # shellcheck disable=SC2086
     try $command --note x
 done
@@ -989,6 +1077,7 @@ pipe 'pilgodur check selector.table >/dev/full'
 pipe 'pilgodur --help >/dev/full'
 pipe 'pilgodur list widest.table >/dev/full'
 pipe 'pilgodur check selector.table >&-'
+pipe 'pilgodur step selector.netlist 3 calls >/dev/full'
 judge
 
 echo "bench: $commands commands, $failures transcripts differ"

@@ -15,27 +15,29 @@ struct answer {
     uint32_t number[NUMBERS];
 };
 
-static const char *const service_names[SERVICES] = {"check", "build", "build-with-lamp", "read-off", "run", "probe", "sheet",
-                                                     "from-drawing", "from-rules"};
+static const char *const service_names[SERVICES] = {"check", "build", "build-with-lamp", "read-off", "run", "step", "probe",
+                                                     "sheet", "from-drawing", "from-rules"};
 static const char *const side_names[SIDES] = {"library", "reference", "library, with notes", "reference, with notes"};
-static const unsigned string_counts[SERVICES] = {1, 2, 2, 1, 5, 3, 2, 2, 2};
-static const unsigned number_counts[SERVICES] = {5, 2, 2, 2, 1, 4, 2, 2, 2};
+static const unsigned string_counts[SERVICES] = {1, 2, 2, 1, 5, 5, 3, 2, 2, 2};
+static const unsigned number_counts[SERVICES] = {5, 2, 2, 2, 1, 2, 4, 2, 2, 2};
 static const char *const string_names[SERVICES][STRINGS] = {
     {"table"}, {"table", "file"}, {"table", "file"}, {"table"}, {"netlist", "rails", "holds", "lines", "pairs"},
-    {"table", "hold", "buffer"}, {"netlist", "text"}, {"drawing", "table"}, {"rules", "table"}};
+    {"netlist", "rails", "holds", "lines", "pairs"}, {"table", "hold", "buffer"}, {"netlist", "text"}, {"drawing", "table"},
+    {"rules", "table"}};
 static const char *const number_names[SERVICES][NUMBERS] = {
     {"refusal", "contacts", "outputs", "gates", "depth"},
     {"refusal", "length"},
     {"refusal", "length"},
     {"refusal", "word"},
     {"refusal"},
+    {"refusal", "place"},
     {"refusal", "input", "output", "way"},
     {"refusal", "length"},
     {"refusal", "length"},
     {"refusal", "length"}};
 
 /* The numbers that each service can give, as a set of bits. */
-static const unsigned possible[SERVICES] = {0xff, 0x2ff, 0x2ff, 0x4ff, 0x7a01, 0xc2ff, 0x1a01, 0x30201, 0x1e0201};
+static const unsigned possible[SERVICES] = {0xff, 0x2ff, 0x2ff, 0x4ff, 0x7a01, 0x207a01, 0xc2ff, 0x1a01, 0x30201, 0x1e0201};
 
 /* The services that make one file of another: the library's and the reference's. */
 typedef pilgodur_built maker(const uint8_t *file, size_t file_len, uint8_t *made, size_t made_len);
@@ -93,12 +95,34 @@ static struct answer perform(enum side side, const struct call *call)
     } else if (call->service == RUN) {
         a.number[0] = (ours ? pilgodur_run : ref_run)(s[0].bytes, s[0].length, s[1].bytes, s[1].length, s[2].bytes,
                                                       s[2].length, s[3].bytes, s[3].length, s[4].bytes, s[4].length);
+    } else if (call->service == STEP) {
+        pilgodur_stepped r = (ours ? pilgodur_step : ref_step)(s[0].bytes, s[0].length, s[1].bytes, s[1].length, s[2].bytes,
+                                                               s[2].length, call->place, call->count, s[3].bytes, s[3].length,
+                                                               s[4].bytes, s[4].length);
+        a = (struct answer){{r.refusal, r.place}};
     } else {
         pilgodur_probed r = (ours ? pilgodur_probe : ref_probe)(s[0].bytes, s[0].length, s[1].bytes, s[1].length, s[2].bytes,
                                                                 s[2].length);
         a = (struct answer){{r.refusal, r.input, r.output, r.way}};
     }
     return a;
+}
+
+/* The bytes of a buffer past which an answer writes none. A step writes lines up to the place that it returns, and the pairs exactly
+ * if that is the line after the last. */
+static size_t written_to(const struct call *call, unsigned k, const struct answer *answer)
+{
+    if (call->service != STEP)
+        return call->need[k];
+    return k == 3 ? answer->number[1] : answer->number[1] == call->need[3] ? call->need[k] : 0;
+}
+
+/* Whether a step that was not refused left the lines before its place as they were. */
+static const char *step_misuse(enum side side, const struct call *call, const struct answer *answer)
+{
+    if (call->place < 2 || call->place > answer->number[1])
+        return "the place returned comes before the one given, or that is below 2";
+    return untouched_between(&lent[side][3], 2, call->place) ? NULL : "the byte of an earlier line has changed";
 }
 
 /* Whether a side gave a number that the service can give, and kept to the rules for lent bytes: none outside a buffer, none after a
@@ -112,13 +136,13 @@ static const char *misuse(enum side side, const struct call *call, const struct 
             return "a refusal comes with a number that is not zero";
     for (unsigned k = 0; k < string_counts[call->service]; k++) {
         bool answered = call->written[k] && answer->number[0] == 0;
-        size_t kept = answered ? call->need[k] : 0;
-        if (kept > call->length[k])
+        size_t kept = answered ? written_to(call, k, answer) : 0;
+        if (kept > call->length[k] || (answered && call->need[k] > call->length[k]))
             return "a buffer that is too short is not refused";
         if (!untouched_from(&lent[side][k], kept))
             return answered ? "a byte past the answer or outside the buffer has changed" : "a lent byte has changed";
     }
-    return NULL;
+    return call->service == STEP && answer->number[0] == 0 ? step_misuse(side, call, answer) : NULL;
 }
 
 static const char *disagreement(enum side side, const struct call *call, const struct answer *answers)
@@ -188,6 +212,8 @@ static void report(const struct call *call, const struct answer *answers, enum s
     }
     if (call->service == READ_OFF)
         printf("  input %" PRIu32 "\n", call->input);
+    if (call->service == STEP)
+        printf("  place %" PRIu32 ", count %" PRIu32 "\n", call->place, call->count);
     print_strings(call);
     differences++;
     stop_after_many();
@@ -244,6 +270,7 @@ uint32_t compare(struct call *call)
             report(call, answers, (enum side)side, what);
     }
     uint32_t refusal = answers[REFERENCE].number[0];
+    call->place_out = answers[LIBRARY].number[1];
     if (what == NULL) {
         hits[call->service][refusal]++;
         noted_hits[call->service][refusal] += call->sides == SIDES;
@@ -251,6 +278,11 @@ uint32_t compare(struct call *call)
             ways[call->content[1][2] > 1][answers[REFERENCE].number[3]]++;
     }
     return refusal;
+}
+
+const uint8_t *left_in(unsigned k)
+{
+    return lent[LIBRARY][k].bytes;
 }
 
 void expect(struct call *call, uint32_t number)

@@ -7,18 +7,20 @@
 #include "damage.h"
 #include "demands.h"
 
-enum { STRINGS = 5, REFUSALS = 21, NOTED_PLACES = 67, WAYS = PILGODUR_WAY_HIDDEN + 1 };
-enum service { CHECK, BUILD, BUILD_WITH_LAMP, READ_OFF, RUN, PROBE, SHEET, FROM_DRAWING, FROM_RULES, SERVICES };
+enum { STRINGS = 5, REFUSALS = 22, NOTED_PLACES = 67, WAYS = PILGODUR_WAY_HIDDEN + 1 };
+enum service { CHECK, BUILD, BUILD_WITH_LAMP, READ_OFF, RUN, STEP, PROBE, SHEET, FROM_DRAWING, FROM_RULES, SERVICES };
 
 /* The strings stand in the order of the parameters. */
 struct call {
     enum service service;
-    uint32_t input;
+    uint32_t input;        /* of read-off */
+    uint32_t place, count; /* of step */
     const uint8_t *content[STRINGS];
     size_t length[STRINGS];
     bool written[STRINGS]; /* a buffer */
-    size_t need[STRINGS];  /* the bytes that an answer writes to it */
+    size_t need[STRINGS];  /* the bytes that an answer writes to it; of step, in all calls together */
     unsigned sides;        /* how many are asked: all, or those without notes */
+    uint32_t place_out;    /* that the library's step returned */
 };
 
 /* Which cases get notes put into their file: so many percent, of any kind in any place, or of this kind in this place. */
@@ -46,6 +48,9 @@ void close_calls(void);
 
 /* Makes one call, which is a case, and returns the reference's number. */
 uint32_t compare(struct call *call);
+
+/* What the library left in string k of the last call. */
+const uint8_t *left_in(unsigned k);
 
 /* A case whose number is known beforehand. */
 void expect(struct call *call, uint32_t number);

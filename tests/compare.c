@@ -1,7 +1,7 @@
 /* Compares the library with the reference, call by call, on boards with spare contacts in every place, on lamps of every count of
- * outputs and of every damage, on holds of lines and pins of every kind, on drawings and rule sheets of every kind, on notes of every
- * kind in every place and on random cases, and asks the demands of boards that the library builds and of tables that it makes from
- * drawings and rule sheets.
+ * outputs and of every damage, on holds of lines and pins of every kind, on runs cut into steps in every way, on drawings and rule
+ * sheets of every kind, on notes of every kind in every place and on random cases, and asks the demands of boards that the library builds
+ * and of tables that it makes from drawings and rule sheets.
  *
  *     compare [SEED [CASES]]
  *
@@ -22,6 +22,7 @@
 #include "malformed.h"
 #include "pin_cases.h"
 #include "rule_cases.h"
+#include "step_cases.h"
 
 _Static_assert(PILGODUR_TABLE_MAX == TABLE_MAX, "the length of the longest table");
 _Static_assert(PILGODUR_NOTE_TAG == NOTE_TAG, "the first tag of notes");
@@ -198,16 +199,22 @@ static void damage_some(struct file *netlist)
     damage_some_notes(netlist);
 }
 
-static void run_case(void)
+/* A run, or one step of it. */
+static void run_case(enum service service)
 {
     static struct file netlist, rails, holds;
-    struct call call = {.service = RUN};
+    struct call call = {.service = service};
     draw_netlist(&netlist);
     struct sites sites = sites_of(&netlist);
     random_rails(&dice, contacts_of(&netlist), &rails);
     random_holds(&dice, &sites, roll(&dice, 3), &holds);
     lend_buffer(&call, 3, sites.lines);
     lend_buffer(&call, 4, 2 * (size_t)pairs_of(&netlist));
+    if (service == STEP) {
+        call.place = draw_place(sites.lines);
+        call.count = draw_count(sites.lines);
+        lend_lines(&call, sites.lines, call.length[3]);
+    }
     damage_some(&netlist);
     if (chance(&dice, 10))
         damage_rails(&dice, &rails);
@@ -426,7 +433,8 @@ static void drawing_case(void)
 
 /* ---- Every service on one board, with buffers that are as long as needed and one byte short. ---- */
 
-/* Run, whose second buffer has room for all pairs, for one byte less and, with a lamp, for all but its pair; sheet. */
+/* Run, whose second buffer has room for all pairs, for one byte less and, with a lamp, for all but its pair; a step with room and one
+ * without; sheet. */
 static void services_on_netlist(const struct file *netlist)
 {
     static struct file rails, holds;
@@ -436,14 +444,15 @@ static void services_on_netlist(const struct file *netlist)
     const size_t room[][2] = {{lines, pairs}, {lines - 1, pairs}, {lines, pairs - 1}, {lines, outputs}};
     random_rails(&dice, contacts_of(netlist), &rails);
     random_holds(&dice, &sites, roll(&dice, 3), &holds);
-    for (unsigned k = 0; k < 4; k++) {
-        struct call run = {.service = RUN};
+    for (unsigned k = 0; k < 6; k++) {
+        struct call run = {.service = k < 4 ? RUN : STEP, .place = 2 + roll(&dice, lines - 1), .count = draw_count(lines)};
+        const size_t *lent = room[k < 4 ? k : k == 4 ? 0 : 1 + roll(&dice, 3)];
         give(&run, 0, netlist);
         give(&run, 1, &rails);
         give(&run, 2, &holds);
-        lend_noise(&run, 3, lines, room[k][0]);
-        lend_noise(&run, 4, pairs, room[k][1]);
-        expect(&run, room[k][0] < lines || room[k][1] < pairs ? 9 : 0);
+        lend_noise(&run, 3, lines, lent[0]);
+        lend_noise(&run, 4, pairs, lent[1]);
+        expect(&run, lent[0] < lines || lent[1] < pairs ? 9 : 0);
     }
     for (unsigned missing = 0; missing < 2; missing++) {
         struct call sheet = {.service = SHEET};
@@ -510,19 +519,22 @@ static void compare_board(const struct diagram *diagram)
 
 /* ---- Lamps. ---- */
 
-/* Run and sheet of a netlist that is refused with this number. */
+/* Run, step and sheet of a netlist that is refused with this number. */
 static void expect_refused(const struct file *netlist, uint32_t number)
 {
     static struct file rails, holds;
-    struct call run = {.service = RUN}, sheet = {.service = SHEET};
+    struct call sheet = {.service = SHEET};
     random_rails(&dice, 1 + roll(&dice, 12), &rails);
     holds.length = 0;
-    give(&run, 0, netlist);
-    give(&run, 1, &rails);
-    give(&run, 2, &holds);
-    lend_noise(&run, 3, 0, PILGODUR_LINES_MAX);
-    lend_noise(&run, 4, 0, PILGODUR_PAIRS_MAX);
-    expect(&run, number);
+    for (unsigned step = 0; step < 2; step++) {
+        struct call run = {.service = step ? STEP : RUN, .place = 2, .count = UINT32_MAX};
+        give(&run, 0, netlist);
+        give(&run, 1, &rails);
+        give(&run, 2, &holds);
+        lend_noise(&run, 3, 0, PILGODUR_LINES_MAX);
+        lend_noise(&run, 4, 0, PILGODUR_PAIRS_MAX);
+        expect(&run, number);
+    }
     give(&sheet, 0, netlist);
     lend_noise(&sheet, 1, 0, PILGODUR_SHEET_MAX);
     expect(&sheet, number);
@@ -814,8 +826,10 @@ static void random_case(void)
         drawing_case();
     else if (kind < 79)
         rules_case();
+    else if (kind < 92)
+        run_case(RUN);
     else
-        run_case();
+        run_case(STEP);
 }
 
 /* ---- The summary. ---- */
@@ -880,13 +894,14 @@ static int summary(void)
     all = print_sheets() && all;
     all = print_lamps() && all;
     all = print_holds() && all;
+    all = print_steps() && all;
     all = print_drawings() && all;
     all = print_rules() && all;
     all = print_notes() && all;
     all = print_demands(&demands) && all;
     if (!all)
-        printf("not every number that a service can give was hit, or a kind of table, sheet, lamp, hold, drawing, rule sheet or "
-               "note was missed\n");
+        printf("not every number that a service can give was hit, or a kind of table, sheet, lamp, hold, step, drawing, rule sheet "
+               "or note was missed\n");
     printf("%lu differences\n", differences + demands.failures);
     return all && differences + demands.failures == 0 ? 0 : 1;
 }
@@ -930,9 +945,11 @@ static void compare_all_kinds(void)
     for (unsigned outputs = 1; outputs <= 8; outputs++)
         compare_lamps(outputs);
     compare_known_holds();
+    compare_known_steps();
     compare_known_rules();
     for (unsigned contacts = 1; contacts <= 12; contacts++) {
         compare_holds(contacts);
+        compare_steps(contacts);
         compare_drawings(contacts);
         compare_rules(contacts);
         compare_notes(contacts);
@@ -958,6 +975,7 @@ int main(int argc, char **argv)
         if (i % 20000 == 0) {
             compare_sizes();
             compare_most_gates();
+            compare_largest_steps();
         }
         if (i % 500 == 0)
             compare_small_board();

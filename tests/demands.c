@@ -334,6 +334,48 @@ static bool check_hold_sets(struct dice *dice, const struct board *board)
     return true;
 }
 
+/* ---- Steps. ---- */
+
+/* Works a run out in some calls, each with lines and pins held at `way`, and leaves in `holds` those that counted. */
+static bool step_board(struct dice *dice, const struct board *board, unsigned way, uint8_t *stepped_lines, uint8_t *stepped_pairs)
+{
+    static struct counted counted;
+    uint32_t place = 2;
+    counted.lines.length = counted.pins.length = 0;
+    while (place < board->lines) {
+        uint32_t count = 1 + roll(dice, board->lines), end = count < board->lines - place ? place + count : board->lines;
+        draw_hold_set(dice, board, &netlist, way);
+        pilgodur_stepped step = pilgodur_step(netlist.bytes, netlist.length, rails.bytes, rails.length, holds.bytes, holds.length,
+                                              place, count, stepped_lines, board->lines, stepped_pairs, 2 * board->diagram->outputs);
+        if (step.refusal != 0 || step.place != end)
+            return fail(board, "a step from %" PRIu32 " by %" PRIu32 " is refused with %" PRIu32 ", or leads to %" PRIu32, place, count,
+                        step.refusal, step.place);
+        add_counted(&counted, &holds, place, end);
+        board->demands->step_calls++;
+        board->demands->step_holds += holds.length / 3;
+        place = end;
+    }
+    list_counted(&counted, &holds);
+    board->demands->held_in_time += holds.length / 3;
+    board->demands->stepped++;
+    return true;
+}
+
+static bool check_steps(struct dice *dice, const struct board *board)
+{
+    static uint8_t stepped_lines[PILGODUR_LINES_MAX], stepped_pairs[PILGODUR_PAIRS_MAX];
+    for (unsigned way = 0; way < 2; way++) {
+        uint32_t input = roll(dice, 1u << board->diagram->contacts);
+        code_rails(board->diagram->contacts, input, &rails);
+        if (!step_board(dice, board, way, stepped_lines, stepped_pairs) || !run_board(board, input))
+            return false;
+        if (memcmp(lines, stepped_lines, board->lines) != 0 || memcmp(pairs, stepped_pairs, 2 * board->diagram->outputs) != 0)
+            return fail(board, "input %" PRIu32 ": a run in steps is not that run with the %zu holds that counted", input,
+                        holds.length / 3);
+    }
+    return true;
+}
+
 /* ---- The lamp. ---- */
 
 /* The plain board's gates and outputs, six gates more for each join, no more depth than is allowed; of one output its pair. */
@@ -546,7 +588,8 @@ void check_board(struct dice *dice, const struct diagram *diagram, struct demand
     struct board board = {.diagram = diagram, .demands = demands};
     demands->boards++;
     if (build_board(&board) && check_what_is_read(&board) && check_new_netlist(&board) &&
-        check_sheet(&board, &netlist) && check_all_permits(dice, &board) && check_hold_sets(dice, &board) && check_lamp(dice, &board))
+        check_sheet(&board, &netlist) && check_all_permits(dice, &board) && check_hold_sets(dice, &board) && check_steps(dice, &board) &&
+        check_lamp(dice, &board))
         check_probes(&board);
 }
 
@@ -558,6 +601,13 @@ static bool print_checked_boards(const struct demands *d)
            "probes, %lu of them of lines that nothing reads, %lu of pins, %lu of hidden ones\n",
            d->boards, d->sheets, d->inputs, d->hold_sets, d->mixed_sets, d->probes, d->unread, d->pin_probes, d->hidden);
     return d->mixed_sets != 0 && d->unread != 0 && d->hidden != 0 && d->hidden != d->pin_probes;
+}
+
+static bool print_checked_steps(const struct demands *d)
+{
+    printf("their runs in steps: %lu, in %lu calls with %lu holds, %lu of which counted\n", d->stepped, d->step_calls, d->step_holds,
+           d->held_in_time);
+    return d->step_calls > d->stepped && d->held_in_time != 0 && d->held_in_time < d->step_holds;
 }
 
 static bool print_checked_lamps(const struct demands *d)
@@ -582,6 +632,7 @@ static bool print_checked_tables(const struct demands *d)
 bool print_demands(const struct demands *demands)
 {
     bool all = print_checked_boards(demands);
+    all = print_checked_steps(demands) && all;
     all = print_checked_lamps(demands) && all;
     return print_checked_tables(demands) && all;
 }

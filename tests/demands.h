@@ -9,6 +9,7 @@
 
 struct demands {
     unsigned long boards, sheets, inputs, hold_sets, mixed_sets, probes, pin_probes, unread, hidden, drawings, too_wide, failures;
+    unsigned long stepped, step_calls, step_holds, held_in_time;
     unsigned long lamp_runs, lamp_codes, lamp_one_way, lamp_no_codes, lamp_seen;
     unsigned long rule_sheets, shared, unruled, rules_too_wide;
 };
@@ -19,6 +20,7 @@ struct demands {
  *   its sheet: read back, with the count of contacts, it is the netlist;
  *   its permits: at every code input each pair shows the table's value and its opposite;
  *   random sets of lines and pins held all at 0 or all at 1: no pair shows the wrong code;
+ *   runs in steps, such a set held in each call: the lines and pairs in the end are those of one run with just the holds that counted;
  *   its lamp: six gates a join after the board's own, at most 2 * ceil(log2(outputs)) more depth; with lines and pins of the plain
  *   board held in any way, at any rails, a code exactly if every pair is; with lines and pins held all one way, its own too, at code
  *   inputs, its code or 00 for holds at 0 or 11 for holds at 1;

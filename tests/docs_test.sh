@@ -1,6 +1,6 @@
 #!/bin/sh
 # The header, the program, README and docs/RULES.md say the same: the questions behind the refusals, the version, the examples, the
-# commands, the worked boards, the worked drawing and the worked rule sheet.
+# commands, the worked boards, the worked steps, the worked drawing and the worked rule sheet.
 #
 #     tests/docs_test.sh BENCH QUESTIONS [RESULTS]
 #
@@ -49,7 +49,7 @@ refused draw wide.drawing
 refused rules hex:
 refused rules hex:010001010800010109000202000900020201
 refused rules hex:01000101080001010900020100
-sed '/^| 9 /d' header >asked # the program lends buffers that are long enough
+sed '/^| 9 /d; /^| 21 /d' header >asked # the program lends buffers that are long enough, and goes on where a step ended
 same "the program's questions are the header's" asked program
 
 sed -n 's/^#define PILGODUR_VERSION "\(.*\)"$/pilgodur \1/p' "$root/include/pilgodur.h" >version
@@ -77,6 +77,8 @@ shown 'list'
 shown 'build --lamp'
 shown 'build selector.table --note'
 shown 'probe'
+sed -n '/^    \$ cat selector.calls/,/^    \$ pilgodur step/p' "$root/README.md" | sed '1d; $d; s/^    //' >selector.calls
+shown 'step selector.netlist'
 
 sed -n '/^    \$ cat both.drawing/,/^    \$ pilgodur draw/p' "$root/README.md" | sed '1d; $d; s/^    //' >both.drawing
 sed -n '/^    \$ pilgodur draw both.drawing/,/^$/p' "$root/README.md" | sed '1d; $d; s/^    //' >drawn
@@ -93,7 +95,7 @@ same "README's examples of draw and rules have one table" drawn ruled
 while read -r command; do
     grep -q "^| \`$command " "$root/README.md" || complain "README has no row for $command"
 done <commands
-[ "$(wc -l <commands)" -ge 12 ] || failures=$((failures + 1))
+[ "$(wc -l <commands)" -ge 13 ] || failures=$((failures + 1))
 
 # The worked boards of docs/RULES.md. A table stands in the first block of a section, with words behind its bytes.
 section() {
@@ -145,6 +147,31 @@ sed 's/ |.*//' page | while read -r high low byte; do
 done >said
 same "what docs/RULES.md says of holds on the selector" said page
 [ "$(wc -l <page)" -eq 8 ] || complain "docs/RULES.md has other holds on the selector"
+
+# The selector in steps: each row is a call, and what the program shows of it. The sentences behind it: one run with the hold that counted.
+section 'A run of the selector in steps' >steps
+sed -n 's/^| \([0-9]* | [0-9]* | [^|]* | [01 ]* | [0-9]*\) |$/\1/p' steps >page
+sed 's/`//g; s/none//' page | while IFS='|' read -r place count holds rest; do
+    echo "$holds" | tr -s ' ' '\n' | sed '/^$/d' | paste -d ' ' - - - | while read -r high low byte; do
+        echo "$((256 * 0x$high + 0x$low))=$((0x$byte))"
+    done | xargs echo $count
+done >calls
+"$bench" step selector.netlist 3 calls >stepped
+awk '
+    FNR == NR { count[NR] = $3; holds[NR] = $0; sub(/^[^|]*\|[^|]*\| /, "", holds[NR]); sub(/ \|.*/, "", holds[NR]); next }
+    /^call / { if (call++) print row(); place = out; out = $4 + 0; values = "" }
+    $1 ~ /^[0-9]+$/ && $2 ~ /^[01]$/ { values = values $2 " " }
+    function row() { return (call == 2 ? 2 : place) " | " count[call - 1] " | " holds[call - 1] " | " values "| " out }
+    END { call++; print row() }' page stepped >said
+same "the steps of the selector in docs/RULES.md" said page
+[ "$(wc -l <page)" -eq 3 ] || complain "docs/RULES.md has other steps of the selector"
+grep -q '^ *10 *1  held$' stepped && grep -q '^16=0 has no effect: .* later$' stepped && grep -q '^8=1 has no effect: .* before$' stepped &&
+    [ "$(grep -c 'no effect' stepped)" -eq 2 ] || complain "the holds in the steps of docs/RULES.md have another effect"
+"$bench" run selector.netlist 3 10=1 --lines | grep '^ *[0-9]* *[01]' | tail -n +3 >said
+grep '^ *[0-9]* *[01]\( \|$\)' stepped >page
+same "the steps of the selector in docs/RULES.md and one run" said page
+tail -n 1 stepped | grep -q '^output 0: 11 ' && "$bench" run selector.netlist 3 | grep -q '^output 0: 10 ' ||
+    complain "the pairs in the steps of docs/RULES.md"
 
 # The selector's table with a note is answered like the table without it; what the page says of other bytes in the note.
 section 'Notes' | bytes >noted

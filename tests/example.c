@@ -1,4 +1,4 @@
-/* Builds the selector's netlist, and probes one of its lines and one of its pins. */
+/* Builds the selector's netlist, probes one of its lines and one of its pins, and steps through a run. */
 #include <stdio.h>
 
 #include <pilgodur.h>
@@ -28,6 +28,25 @@ static int probe(const char *held, const uint8_t hold[3], uint32_t length)
     return 0;
 }
 
+/* Steps through a run at input 3, four lines a call. Line 10 is held at 1, by the call that works it out. */
+static int step(const uint8_t *netlist, uint32_t length)
+{
+    static const uint8_t rails[] = {1, 0, 1, 0, 0, 1}, hold[] = {0, 10, 1};
+    static uint8_t lines[PILGODUR_LINES_MAX], pairs[PILGODUR_PAIRS_MAX];
+    pilgodur_checked checked = pilgodur_check(table, sizeof table);
+    uint32_t place = 2, calls = 0;
+    while (place < 2 + 2 * checked.contacts + checked.gates) {
+        pilgodur_stepped stepped = pilgodur_step(netlist, length, rails, sizeof rails, hold, place == 10 ? sizeof hold : 0, place, 4,
+                                                 lines, sizeof lines, pairs, sizeof pairs);
+        if (stepped.refusal != PILGODUR_REFUSAL_NONE)
+            return refused(stepped.refusal);
+        place = stepped.place;
+        calls++;
+    }
+    printf("after %u calls line 16 is %u, and output 0 is %u%u\n", (unsigned)calls, lines[16], pairs[0], pairs[1]);
+    return 0;
+}
+
 int main(void)
 {
     static const uint8_t line[] = {0, 10, 0}; /* line 10 held at 0 */
@@ -38,5 +57,6 @@ int main(void)
     if (built.refusal != PILGODUR_REFUSAL_NONE)
         return refused(built.refusal);
     printf("the netlist file has %u bytes\n", (unsigned)built.length);
-    return probe("line 10 held at 0", line, built.length) || probe("the first pin of line 8 held at 1", pin, built.length);
+    return probe("line 10 held at 0", line, built.length) || probe("the first pin of line 8 held at 1", pin, built.length) ||
+           step(netlist, built.length);
 }

@@ -94,6 +94,24 @@ void not_one_hold(struct dice *dice, const struct sites *sites, struct file *hol
     add_hold(holds, b.line, b.value);
 }
 
+/* ---- Steps. ---- */
+
+void add_counted(struct counted *counted, const struct file *holds, unsigned from, unsigned to)
+{
+    for (size_t at = 0; at < holds->length; at += 3) {
+        struct hold hold = hold_at(holds->bytes + at);
+        if (from <= hold.line && hold.line < to)
+            add_hold(hold.value > 1 ? &counted->pins : &counted->lines, hold.line, hold.value);
+    }
+}
+
+void list_counted(const struct counted *counted, struct file *holds)
+{
+    memcpy(holds->bytes, counted->lines.bytes, counted->lines.length);
+    memcpy(holds->bytes + counted->lines.length, counted->pins.bytes, counted->pins.length);
+    holds->length = counted->lines.length + counted->pins.length;
+}
+
 /* ---- Damage. ---- */
 
 bool can_damage_holds(enum hold_damage kind, const struct sites *sites)

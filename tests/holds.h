@@ -42,4 +42,15 @@ void damage_holds_somehow(struct dice *dice, const struct sites *sites, struct f
 /* Makes one bad hold, or bytes that are not whole. */
 void damage_one_hold(struct dice *dice, enum hold_damage kind, const struct sites *sites, struct file *hold);
 
+/* The holds that count in a run made in steps: those of the lines that the call with their list works out, and of pins of these gates. */
+struct counted {
+    struct file lines, pins;
+};
+
+/* Adds those of a list whose call works out the lines from one to before another. */
+void add_counted(struct counted *counted, const struct file *holds, unsigned from, unsigned to);
+
+/* All of them as one list. */
+void list_counted(const struct counted *counted, struct file *holds);
+
 #endif

@@ -65,3 +65,8 @@ bool untouched_from(const struct lent *lent, size_t from)
     return memcmp(lent->area + first, lent->image + first, start - first) == 0 &&
            memcmp(lent->bytes + from, lent->image + start + from, to - start - from) == 0;
 }
+
+bool untouched_between(const struct lent *lent, size_t from, size_t to)
+{
+    return memcmp(lent->bytes + from, lent->image + (lent->bytes - lent->area) + from, to - from) == 0;
+}

@@ -28,4 +28,7 @@ void lend(struct lent *lent, const uint8_t *content, size_t length, enum place p
 /* Whether the guard bytes and the string's bytes from `from` on are as they were lent. */
 bool untouched_from(const struct lent *lent, size_t from);
 
+/* Whether the string's bytes from one to before another are as they were lent. */
+bool untouched_between(const struct lent *lent, size_t from, size_t to);
+
 #endif

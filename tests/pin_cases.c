@@ -1,14 +1,13 @@
 #include "pin_cases.h"
 
-#include <inttypes.h>
 #include <stdio.h>
 #include <string.h>
 
-#include "calls.h"
 #include "edits.h"
+#include "known.h"
 #include "reference.h"
 
-enum { SELECTOR_GATE = 8, SELECTOR_LINES = 17, BOARDS = 4, SMALL_WORK = 20000 };
+enum { BOARDS = 4, SMALL_WORK = 20000 };
 enum held_kind {
     NOTHING_HELD, LINES_ALONE, PINS_ALONE, LINES_AND_PINS, LINE_AND_PIN_OF_A_GATE, BOTH_PINS_OF_A_GATE, HELD_KINDS
 };
@@ -50,42 +49,6 @@ static void expect_run(const struct file *netlist, const struct file *rails, con
 }
 
 /* ---- Answers worked out by hand. ---- */
-
-/* Says, unless it is so, that the reference gives another answer than was worked out. */
-static void expect_right(bool right, const char *what, const struct file *holds)
-{
-    if (right)
-        return;
-    printf("difference after case %lu, seed %" PRIu64 ", %s: the reference gives another answer than was worked out; held:", cases,
-           seed, what);
-    for (size_t at = 0; at < holds->length; at += 3)
-        printf(" %u=%u", two_bytes(holds->bytes + at), holds->bytes[at + 2]);
-    printf("\n");
-    differences++;
-    stop_after_many();
-}
-
-static void set_file(struct file *file, const uint8_t *bytes, size_t length)
-{
-    memcpy(file->bytes, bytes, length);
-    file->length = length;
-}
-
-/* Whether lines have the values that a text tells. */
-static bool are_lines(const uint8_t *lines, const char *text)
-{
-    for (; *text != '\0'; text++, lines++)
-        if (*lines != *text - '0')
-            return false;
-    return true;
-}
-
-static void set_selector(struct file *table, struct file *netlist)
-{
-    static const uint8_t bytes[] = {1, 0, 1, 3, 2, 0, 1, 0, 3, 0, 2, 0, 1, 3, 0, 4, 0, 1, 0, 2, 3, 0, 6, 0, 1, 0, 0, 1, 1};
-    set_file(table, bytes, sizeof bytes);
-    build_netlist(table, false, netlist);
-}
 
 /* The lines are the constants, the rails and the gates. */
 static void compare_known_probes(void)

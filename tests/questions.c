@@ -7,7 +7,7 @@
 _Static_assert(PILGODUR_REFUSAL_NONE == 0 && PILGODUR_REFUSAL_FIELDS == 1 && PILGODUR_REFUSAL_NUMBERING == 7 &&
                PILGODUR_REFUSAL_BUFFER == 9 && PILGODUR_REFUSAL_HOLDS == 14 && PILGODUR_REFUSAL_UNREAD == 15 &&
                PILGODUR_REFUSAL_DRAWING == 16 && PILGODUR_REFUSAL_FUNCTIONS == 17 && PILGODUR_REFUSAL_RULES == 18 && PILGODUR_REFUSAL_SHARED == 19 &&
-               PILGODUR_REFUSAL_UNRULED == 20, "the refusals' numbers");
+               PILGODUR_REFUSAL_UNRULED == 20 && PILGODUR_REFUSAL_PLACE == 21, "the refusals' numbers");
 _Static_assert(PILGODUR_WAY_BOTH_LOW == 0 && PILGODUR_WAY_BOTH_HIGH == 1 && PILGODUR_WAY_HIDDEN == 2, "the ways' numbers");
 
 #define ROW(number, name, text) printf("| %d | %s |\n", name, text);

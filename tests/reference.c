@@ -585,10 +585,26 @@ static void mark_read(struct netlist *netlist)
         netlist->wire[netlist->pair[j][0]].is_read = netlist->wire[netlist->pair[j][1]].is_read = true;
 }
 
-static void write_lines(struct netlist *netlist, uint8_t *lines)
+/* Writes the lines from one to before another. */
+static void write_lines(struct netlist *netlist, unsigned from, unsigned to, uint8_t *lines)
 {
-    for (unsigned line = 0; line < netlist->lines; line++)
+    for (unsigned line = from; line < to; line++)
         lines[line] = (uint8_t)value_of(netlist->wire, line);
+}
+
+static void write_pairs(struct netlist *netlist, uint8_t *pairs)
+{
+    for (unsigned k = 0; k < 2 * netlist->pairs; k++)
+        pairs[k] = (uint8_t)value_of(netlist->wire, netlist->pair[k / 2][k % 2]);
+}
+
+/* Takes the lines before a place as they stand in a buffer, whatever is held now: that was not so when they were worked out. */
+static void read_back(struct netlist *netlist, unsigned place, const uint8_t *lines)
+{
+    for (unsigned line = 2; line < place; line++) {
+        netlist->wire[line].held[LINE] = UNKNOWN;
+        netlist->wire[line].value = lines[line] == 0 ? 0 : 1;
+    }
 }
 
 /* ---- Probe. ---- */
@@ -749,6 +765,12 @@ static uint32_t run(struct pool *pool, const uint8_t *file, size_t file_len, con
     return 0;
 }
 
+/* Question 9 for the buffers of a run. */
+static bool have_room(const struct netlist *netlist, size_t lines_len, size_t pairs_len)
+{
+    return lines_len >= netlist->lines && pairs_len >= 2 * (size_t)netlist->pairs;
+}
+
 uint32_t ref_run(const uint8_t *netlist, size_t netlist_len, const uint8_t *rails, size_t rails_len,
                  const uint8_t *holds, size_t holds_len, uint8_t *lines, size_t lines_len,
                  uint8_t *pairs, size_t pairs_len)
@@ -756,15 +778,39 @@ uint32_t ref_run(const uint8_t *netlist, size_t netlist_len, const uint8_t *rail
     struct pool pool = {NULL};
     struct netlist board = {0};
     uint32_t refusal = run(&pool, netlist, netlist_len, rails, rails_len, holds, holds_len, &board);
-    if (refusal == 0 && (lines_len < board.lines || pairs_len < 2 * (size_t)board.pairs))
+    if (refusal == 0 && !have_room(&board, lines_len, pairs_len))
         refusal = 9;
     if (refusal == 0) {
-        for (unsigned k = 0; k < 2 * board.pairs; k++)
-            pairs[k] = (uint8_t)value_of(board.wire, board.pair[k / 2][k % 2]);
-        write_lines(&board, lines);
+        write_pairs(&board, pairs);
+        write_lines(&board, 0, board.lines, lines);
     }
     give_back(&pool);
     return refusal;
+}
+
+pilgodur_stepped ref_step(const uint8_t *netlist, size_t netlist_len, const uint8_t *rails, size_t rails_len,
+                          const uint8_t *holds, size_t holds_len, uint32_t place, uint32_t count,
+                          uint8_t *lines, size_t lines_len, uint8_t *pairs, size_t pairs_len)
+{
+    struct pool pool = {NULL};
+    struct netlist board = {0};
+    pilgodur_stepped answer = {0};
+    answer.refusal = run(&pool, netlist, netlist_len, rails, rails_len, holds, holds_len, &board);
+    if (answer.refusal == 0 && (place < 2 || place > board.lines))
+        answer.refusal = 21;
+    if (answer.refusal == 0 && !have_room(&board, lines_len, pairs_len))
+        answer.refusal = 9;
+    if (answer.refusal == 0) {
+        uint32_t left = board.lines - place;
+        answer.place = place + (count < left ? count : left);
+        read_back(&board, place, lines);
+        write_lines(&board, 0, 2, lines);
+        write_lines(&board, place, answer.place, lines);
+        if (answer.place == board.lines)
+            write_pairs(&board, pairs);
+    }
+    give_back(&pool);
+    return answer;
 }
 
 /* The probe of an accepted table. */
@@ -792,7 +838,7 @@ static pilgodur_probed probe(struct pool *pool, const struct diagram *diagram, c
         netlist.wire[held.line].held[held.site] = held.level;
         search(&netlist, held.site == LINE, &answer);
         memcpy(buffer, file, length);
-        write_lines(&netlist, buffer + length);
+        write_lines(&netlist, 0, netlist.lines, buffer + length);
     }
     return answer;
 }

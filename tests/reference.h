@@ -1,4 +1,4 @@
-/* The independent implementation of the nine services, written from the rules alone. Same arguments and answers as pilgodur.h. */
+/* The independent implementation of the ten services, written from the rules alone. Same arguments and answers as pilgodur.h. */
 #ifndef REFERENCE_H
 #define REFERENCE_H
 
@@ -11,6 +11,9 @@ pilgodur_reading ref_read_off(const uint8_t *table, size_t table_len, uint32_t i
 uint32_t ref_run(const uint8_t *netlist, size_t netlist_len, const uint8_t *rails, size_t rails_len,
                  const uint8_t *holds, size_t holds_len, uint8_t *lines, size_t lines_len,
                  uint8_t *pairs, size_t pairs_len);
+pilgodur_stepped ref_step(const uint8_t *netlist, size_t netlist_len, const uint8_t *rails, size_t rails_len,
+                          const uint8_t *holds, size_t holds_len, uint32_t place, uint32_t count,
+                          uint8_t *lines, size_t lines_len, uint8_t *pairs, size_t pairs_len);
 pilgodur_probed ref_probe(const uint8_t *table, size_t table_len, const uint8_t *hold, size_t hold_len,
                           uint8_t *buffer, size_t buffer_len);
 pilgodur_built ref_sheet(const uint8_t *netlist, size_t netlist_len, uint8_t *text, size_t text_len);

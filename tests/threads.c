@@ -26,6 +26,7 @@ struct board {
     size_t rails_length;
     uint8_t hold[3];
     uint32_t input;
+    uint32_t count; /* of lines in the first of two steps, about half of them */
     uint8_t drawing[DRAWING_MAX];
     size_t drawing_length;
     uint8_t rules[RULES_MAX];
@@ -39,6 +40,7 @@ struct answers {
     pilgodur_built built_with_lamp;
     pilgodur_reading reading;
     uint32_t run;
+    pilgodur_stepped stepped[2];
     pilgodur_probed probed;
     pilgodur_built sheet;
     pilgodur_built drawn;
@@ -47,6 +49,8 @@ struct answers {
     uint8_t file_with_lamp[PILGODUR_FILE_MAX];
     uint8_t lines[PILGODUR_LINES_MAX];
     uint8_t pairs[PILGODUR_PAIRS_MAX];
+    uint8_t stepped_lines[PILGODUR_LINES_MAX];
+    uint8_t stepped_pairs[PILGODUR_PAIRS_MAX];
     uint8_t probe[BUFFER];
     uint8_t text[PILGODUR_SHEET_MAX];
     uint8_t table[PILGODUR_TABLE_MAX];
@@ -58,6 +62,12 @@ static struct answers expected[BOARDS];
 static struct answers given[THREADS];
 static unsigned rounds = 30;
 
+static pilgodur_stepped step(const struct board *b, uint32_t place, uint32_t count, struct answers *a)
+{
+    return pilgodur_step(b->netlist, b->netlist_length, b->rails, b->rails_length, b->hold, sizeof b->hold, place, count,
+                         a->stepped_lines, sizeof a->stepped_lines, a->stepped_pairs, sizeof a->stepped_pairs);
+}
+
 static void ask(const struct board *b, struct answers *a)
 {
     memset(a, 0, sizeof *a);
@@ -67,10 +77,19 @@ static void ask(const struct board *b, struct answers *a)
     a->reading = pilgodur_read_off(b->table, b->table_length, b->input);
     a->run = pilgodur_run(b->netlist, b->netlist_length, b->rails, b->rails_length, b->hold, sizeof b->hold, a->lines,
                           sizeof a->lines, a->pairs, sizeof a->pairs);
+    a->stepped[0] = step(b, 2, b->count, a);
+    a->stepped[1] = step(b, a->stepped[0].place, UINT32_MAX, a);
     a->probed = pilgodur_probe(b->table, b->table_length, b->hold, sizeof b->hold, a->probe, sizeof a->probe);
     a->sheet = pilgodur_sheet(b->netlist, b->netlist_length, a->text, sizeof a->text);
     a->drawn = pilgodur_from_drawing(b->drawing, b->drawing_length, a->table, sizeof a->table);
     a->ruled = pilgodur_from_rules(b->rules, b->rules_length, a->table_of_rules, sizeof a->table_of_rules);
+}
+
+/* Both steps have the hold of the run, so together they are the run. */
+static bool steps_are_run(const struct answers *a)
+{
+    return a->run == 0 && a->stepped[1].refusal == 0 && a->stepped[0].place < a->stepped[1].place &&
+           memcmp(a->lines, a->stepped_lines, sizeof a->lines) == 0 && memcmp(a->pairs, a->stepped_pairs, sizeof a->pairs) == 0;
 }
 
 static void set_hold(uint8_t hold[3], unsigned line, unsigned value)
@@ -127,6 +146,7 @@ static void draw_board(struct dice *dice, struct board *b)
         b->rails[i] = (uint8_t)roll(dice, 2);
     draw_hold(dice, &diagram, b);
     b->input = roll(dice, 1u << diagram.contacts);
+    b->count = (uint32_t)b->netlist_length / 10;
     drawing_of(&diagram, &drawing);
     redraw(dice, roll(dice, MOST_NODES + 1), &drawing);
     b->drawing_length = write_drawing(&drawing, b->drawing);
@@ -179,20 +199,27 @@ static bool overlaps(void)
     static const uint8_t netlist[] = {1, 0, 1, 1, 4, 0, 0, 5, 0, 4, 0, 2, 0, 3};
     static const uint8_t hold[] = {0, 2, 0}, rails[] = {0, 1};
     static uint8_t buffer[2][BUFFER];
-    uint8_t lines[2][4], pairs[2][2];
+    uint8_t lines[4][4], pairs[4][2];
     pilgodur_probed apart = pilgodur_probe(table, sizeof table, hold, sizeof hold, buffer[0], BUFFER);
     pilgodur_probed within = pilgodur_probe(table, sizeof table, table + 9, 3, buffer[1], BUFFER);
     uint32_t run_apart = pilgodur_run(netlist, sizeof netlist, rails, 2, hold, 3, lines[0], 4, pairs[0], 2);
     uint32_t run_within = pilgodur_run(netlist, sizeof netlist, netlist + 1, 2, netlist + 10, 3, lines[1], 4, pairs[1], 2);
+    pilgodur_stepped step_apart = pilgodur_step(netlist, sizeof netlist, rails, 2, hold, 3, 2, 2, lines[2], 4, pairs[2], 2);
+    pilgodur_stepped step_within =
+        pilgodur_step(netlist, sizeof netlist, netlist + 1, 2, netlist + 10, 3, 2, 2, lines[3], 4, pairs[3], 2);
+    bool same = true;
+    for (unsigned k = 1; k < 4; k++)
+        same = same && memcmp(lines[0], lines[k], 4) == 0 && memcmp(pairs[0], pairs[k], 2) == 0;
     return memcmp(&apart, &within, sizeof apart) == 0 && apart.refusal == 0 && memcmp(buffer[0], buffer[1], BUFFER) == 0 &&
-           run_apart == 0 && run_within == 0 && memcmp(lines[0], lines[1], 4) == 0 && memcmp(pairs[0], pairs[1], 2) == 0;
+           run_apart == 0 && run_within == 0 && step_apart.refusal == 0 && memcmp(&step_apart, &step_within, sizeof step_apart) == 0 &&
+           same;
 }
 
 int main(int argc, char **argv)
 {
     static const char *const verdict[] = {"DIFFERENT ANSWERS", "the same answers"};
     struct dice dice = {1};
-    unsigned accepted = 0, lamps = 0, unread = 0, pins = 0, hidden = 0, drawn = 0, ruled = 0;
+    unsigned accepted = 0, lamps = 0, unread = 0, pins = 0, hidden = 0, stepped = 0, drawn = 0, ruled = 0;
     if (argc > 1)
         rounds = (unsigned)strtoul(argv[1], NULL, 10);
     for (unsigned i = 0; i < BOARDS; i++) {
@@ -203,16 +230,19 @@ int main(int argc, char **argv)
         unread += expected[i].probed.refusal == PILGODUR_REFUSAL_UNREAD;
         pins += boards[i].hold[2] > 1;
         hidden += expected[i].probed.way == PILGODUR_WAY_HIDDEN;
+        stepped += steps_are_run(&expected[i]);
         drawn += expected[i].drawn.refusal == 0;
         ruled += expected[i].ruled.refusal == 0;
     }
     bool threads_agree = run_threads();
     bool overlaps_agree = overlaps();
     printf("threads: %d threads, %d boards (%u accepted, %u netlists with a lamp, %u with a spare rail held, %u with a pin held, %u with a "
-           "hidden one, %u with a good drawing, %u with a good rule sheet), %u rounds: %s; overlapping strings: %s\n",
-           THREADS, BOARDS, accepted, lamps, unread, pins, hidden, drawn, ruled, rounds, verdict[threads_agree],
+           "hidden one, %u with a run in two steps, %u with a good drawing, %u with a good rule sheet), %u rounds: %s; "
+           "overlapping strings: %s\n",
+           THREADS, BOARDS, accepted, lamps, unread, pins, hidden, stepped, drawn, ruled, rounds, verdict[threads_agree],
            verdict[overlaps_agree]);
     bool all_kinds = accepted > BOARDS / 2 && accepted < BOARDS && lamps > 0 && lamps < BOARDS && unread > 0 &&
-                     pins > hidden && hidden > 0 && pins < BOARDS && drawn > BOARDS / 2 && drawn < BOARDS && ruled > BOARDS / 2 && ruled < BOARDS;
+                     pins > hidden && hidden > 0 && pins < BOARDS && stepped == BOARDS && drawn > BOARDS / 2 && drawn < BOARDS &&
+                     ruled > BOARDS / 2 && ruled < BOARDS;
     return threads_agree && overlaps_agree && all_kinds ? 0 : 1;
 }
