@@ -11,12 +11,11 @@ use lib.ListN.{length, getD, set}
 use Rattle.netlist.specs.declared.Gate.{Gate}
 use Rattle.netlist.specs.Netlist.{gateAt, holdAt, holdsOf}
 use Rattle.drive.specs.Questions.{rankOf}
-use Rattle.drive.proofs.Tests.{holds-at}
 use Rattle.simulation.specs.Run.{gateOf, held}
 use Rattle.simulation.specs.Service.{readBack}
 use Rattle.evaluation.specs.declared.ranks.Looked.{Looked}
 use Rattle.evaluation.specs.declared.ranks.Next.{Next}
-use Rattle.evaluation.specs.Inner.Walk.{IsNext, Sorted, Awaits, Looks, Walks, PinsFree, workedOver, Ready}
+use Rattle.evaluation.specs.Inner.Walk.{Sorted, Awaits, Looks, Walks, PinsFree, workedOver, Ready}
 use Rattle.evaluation.proofs.Looking.{held-none, sorted, ahead-at}
 use Rattle.evaluation.proofs.Putting.{none-put, gate-put}
 

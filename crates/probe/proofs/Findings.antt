@@ -10,7 +10,7 @@ use lib.Seq.{take-at, drop-at, drop-drop, take-length, drop-length}
 use Rattle.diagram.specs.Diagram.{inputOf}
 use Rattle.netlist.specs.declared.Hold.{Hold}
 use Rattle.netlist.specs.Netlist.{Netlist, gateLine, gatesOf, holdAt, holdsOf, netOf}
-use Rattle.simulation.specs.Run.{holding, driversOf, workOut, valuesOf}
+use Rattle.simulation.specs.Run.{holding, driversOf, valuesOf}
 use Rattle.files.specs.Room.{over}
 use Rattle.evaluation.specs.Inner.Walk.{Ready, steppedOver}
 use Rattle.netlist.proofs.Lists.{length-gates}

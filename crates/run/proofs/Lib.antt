@@ -1,4 +1,3 @@
 pub mod Answers
 pub mod Outcomes
 pub mod Paired
-pub mod Values

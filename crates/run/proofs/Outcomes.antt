@@ -1,7 +1,7 @@
 -- What a step refuses and what it leaves, question by question.
 use borrow.Author.Tests.{eq-eqb, ne-eqb}
 use native.Mathlib.Omega.{arith}
-use Prim.Native.Nat.{ℕ, zero, suc, _+_, _*_, _-_, _/_, _≤_, _<_, min}
+use Prim.Native.Nat.{ℕ, zero, suc, _+_, _-_, _/_, _≤_, _<_, min}
 use mathlib.Core.Path.{_≡_, refl, sym, ap, ap₂, _∙_}
 use mathlib.Core.Bool.{Bool, true, cond}
 use mathlib.Core.List.{List, _++_, map}
@@ -11,19 +11,19 @@ use Rattle.fields.proofs.Refusals.{first-no, first-next}
 use Rattle.files.specs.Room.{over}
 use Rattle.netlist.specs.Netlist.{Netlist, gateLine, lineCount, gatesOf, pairsOf, pairAt, netWith, holdsOf}
 use Rattle.netlist.proofs.Lists.{length-gates, length-pairs, getD-pairs}
-use Rattle.wiring.specs.Questions.{arePairs, netlistIn}
+use Rattle.wiring.specs.Questions.{arePairs}
 use Rattle.wiring.specs.declared.reading.Parts.{Parts}
 use Rattle.wiring.specs.Inner.Read.{Read}
 use Rattle.wiring.proofs.Opened.{Opened, net-is, outputs-wired, lamp-wired}
 use Rattle.wiring.proofs.Tests.{pairs-at}
 use Rattle.simulation.specs.Run.{Driver, holding, driversOf, workOut, shownOf, shownBy}
-use Rattle.simulation.specs.Service.{readBack, linesBefore, steppedValues, stepRefusal, steppedOr, stepOf}
+use Rattle.simulation.specs.Service.{readBack, linesBefore, steppedValues, stepRefusal, stepOf}
 use Rattle.simulation.proofs.Answers.{driven-bits}
 use Rattle.simulation.proofs.Shown.{shown-same}
+use Rattle.simulation.proofs.Stepped.{as-many, read-at}
 use Rattle.simulation.proofs.Whole.{Taken, taken, count-of}
 use Rattle.evaluation.specs.Inner.Walk.{steppedOver}
 use Rattle.run.specs.Inner.Asking.{askingOf}
-use Rattle.run.proofs.Values.{as-many, read-at}
 
 module _ (file rails holds : List ℕ) (place count : ℕ) (lines pairs : List ℕ) where
   -- What a step returns, and what it leaves in the two buffers.
@@ -84,8 +84,7 @@ module _ (file rails holds : List ℕ) (place count : ℕ) (lines pairs : List �
             l ∙ ap (λ (ds : List (Driver ℕ)).
             over (linesBefore place lines ++ drop place (workOut (holding (holdsOf holds)) ds (map readBack (linesBefore place lines)))) lines)
             (ap (λ (k : ℕ). take (k - place) (drop (place - 2) (driversOf rails (gatesOf gates)))) out
-            ∙ as-many net rails holds place count lines (driven-bits n rails (given .driven)) (count-of net rails (given .driven)) (given .from)
-            (given .upto) (given .room))
+            ∙ as-many net rails holds place count lines (count-of net rails (given .driven)) (given .from) (given .upto))
 
         leaves : {ps : List ℕ} → ps ≡ cond (eqb (min (place + count) (lineCount net)) (lineCount net)) (over (shownBy net values) pairs) pairs →
             StepLeaves 0 to ls ps
@@ -103,8 +102,8 @@ module _ (file rails holds : List ℕ) (place count : ℕ) (lines pairs : List �
         shown h v wired =
             shown-same end (map readBack ls) values
             (λ i k. ap (λ (us : List ℕ). getD (map readBack us) i 0) lines-left
-            ∙ read-at net rails holds place count lines (driven-bits n rails (given .driven)) (count-of net rails (given .driven)) (given .from)
-            (given .upto) (given .room) i (omega (arith, out)))
+            ∙ read-at net rails holds place count lines (count-of net rails (given .driven)) (given .from) (given .upto) (given .room)
+            (driven-bits n rails (given .driven)) i (omega (arith, out)))
             (pairAt v 0) (pairsOf v)
             (λ j m. rw (getD-pairs v j (pairAt v 0) (omega (arith, length-pairs v)))
             (pairs-at end v wired j (omega (arith, length-pairs v))))

@@ -8,4 +8,5 @@ pub mod Answers
 pub mod Shown
 pub mod Writes
 pub mod Worked
+pub mod Stepped
 pub mod Whole

@@ -8,24 +8,21 @@ use borrow.Author.Tests.{leb-true, eq-eqb}
 use lib.Dec.{eqb, leb}
 use lib.ListN.{length, drop, take-append-drop}
 use lib.Seq.{take-all}
-use Rattle.fields.specs.Refusals.{firstNo}
 use Rattle.fields.proofs.Refusals.{first-yes}
 use Rattle.files.specs.declared.room.Room.the-variants.{Enough, Short}
 use Rattle.files.specs.Room.{over, roomOf, roomNumber}
-use Rattle.files.proofs.Buffers.{enough}
 use Rattle.netlist.specs.Netlist.{Netlist, gateLine, lineCount, holdsOf}
 use Rattle.wiring.specs.Questions.{netlistIn}
 use Rattle.drive.specs.declared.Rails.{Rails}
 use Rattle.drive.specs.declared.Rails.the-variants.{Driven, Undriven}
 use Rattle.drive.specs.declared.Holds.{Holds}
 use Rattle.drive.specs.declared.Holds.the-variants.{Ordered, Disordered}
-use Rattle.drive.specs.declared.Place.{Place}
 use Rattle.drive.specs.declared.Place.the-variants.{Within, Outside}
 use Rattle.drive.specs.Questions.{railsOf, railsNumber, orderOf, holdsNumber, placeOf, placeNumber}
 use Rattle.simulation.specs.Run.{Driver, workOut, holding, driversOf, valuesOf, shownBy}
 use Rattle.simulation.specs.Service.{Stepping, linesBefore, steppedValues, steppedOr, stepRefusal, stepOf, ranBy, runOf}
 use Rattle.simulation.proofs.Answers.{driven}
-use Rattle.simulation.proofs.Runs.{length-run, run-take}
+use Rattle.simulation.proofs.Runs.{run-take}
 use Rattle.simulation.proofs.Worked.{length-drivers}
 
 -- What a yes to questions 13, 14, 21 and 9 says.

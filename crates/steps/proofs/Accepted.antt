@@ -1,11 +1,9 @@
--- When a step is accepted, and where it ends.
-use native.Mathlib.Omega.{arith}
-use Prim.Native.Nat.{ℕ, zero, suc, _+_, _-_, _≤_, min}
-use mathlib.Core.Path.{_≡_, refl, sym, ap, ap₂, _∙_}
+-- When a step is accepted.
+use Prim.Native.Nat.{ℕ, _-_, _≤_}
+use mathlib.Core.Path.{_≡_, ap, ap₂, _∙_}
 use mathlib.Core.Bool.{Bool, _&&_, cond}
 use mathlib.Core.List.{List}
 use borrow.Author.Tests.{le-leb}
-use lib.ListN.{length, take, drop, length-take, length-drop}
 use Rattle.fields.proofs.Refusals.{first-yes, first-next, first-only}
 use Rattle.files.specs.declared.room.Room.the-variants.{Enough, Short}
 use Rattle.files.specs.Room.{roomOf, roomNumber}
@@ -13,9 +11,8 @@ use Rattle.netlist.specs.Netlist.{lineCount}
 use Rattle.drive.specs.declared.Place.the-variants.{Within, Outside}
 use Rattle.drive.specs.Questions.{railsNumber, holdsNumber, placeOf, placeNumber}
 use Rattle.wiring.specs.Questions.{netlistIn, netlistRefusal}
-use Rattle.simulation.specs.Run.{driversOf}
-use Rattle.simulation.specs.Service.{stepRefusal, steppedOr, stepOf}
-use Rattle.simulation.proofs.Whole.{Taken, count-of}
+use Rattle.simulation.specs.Service.{stepRefusal}
+use Rattle.simulation.proofs.Whole.{Taken}
 
 module _ (file rails holds : List ℕ) (place lines pairs : ℕ) where
   pub sound : stepRefusal file rails holds place lines pairs ≡ 0 → netlistRefusal file ≡ 0
@@ -34,12 +31,3 @@ module _ (file rails holds : List ℕ) (place lines pairs : ℕ) where
     where
       room : (wanted lent : ℕ) → wanted ≤ lent → roomNumber (roomOf wanted lent) ≡ 0
       room wanted lent l = ap (λ (b : Bool). roomNumber (cond b Enough Short)) (le-leb wanted lent l)
-
-  -- Where it ends.
-  pub ends-at : (count : ℕ) → Taken (netlistIn file) rails holds place lines pairs →
-      let net = netlistIn file in
-      min (place + count) (lineCount net) ≡ place + length (take count (drop (place - 2) (driversOf rails (net .gates))))
-  ends-at count t =
-      let net = netlistIn file in
-      let ds = driversOf rails (net .gates) in
-      omega (arith, count-of net rails (t .driven), length-take count (drop (place - 2) ds), length-drop (place - 2) ds, t .from, t .upto)

@@ -1,8 +1,8 @@
 -- The values of the lines below a place, worked out by some lines a step.
 use native.Mathlib.Nat.{add-sub-of-le}
 use native.Mathlib.Omega.{arith}
-use Prim.Native.Nat.{ℕ, zero, suc, _+_, _-_, _≤_, _<_}
-use mathlib.Core.Path.{_≡_, refl, sym, ap, _∙_}
+use Prim.Native.Nat.{ℕ, _+_, _-_, _≤_, _<_}
+use mathlib.Core.Path.{_≡_, sym, ap, _∙_}
 use mathlib.Core.List.{List, [], _∷_, _++_, map}
 use lib.ListN.{length, getD, take, drop, take-append-drop}
 use lib.Seq.{length-take-le, take-at, take-append-le, take-add}
@@ -15,17 +15,13 @@ use Rattle.simulation.specs.Service.{readBack, linesBefore}
 use Rattle.simulation.proofs.Runs.{length-run, run-append, run-take}
 use Rattle.simulation.proofs.Monotone.{held-elsewhere}
 use Rattle.simulation.proofs.Reading.{BitDriver, bit-drivers, worked-bits, read-bits}
+use Rattle.simulation.proofs.Stepped.{take-again}
 use Rattle.steps.specs.Steps.{countedIn}
 use Rattle.steps.proofs.Sites.{held-append, counted-within, held-within, hold-agree}
 use Rattle.steps.proofs.Ordered.{Before}
 
 abbrev constants : List ℕ
 constants = 0 ∷ 1 ∷ []
-
-take-again : {A : Type 0} (c : ℕ) (xs : List A) → take (length (take c xs)) xs ≡ take c xs
-take-again zero xs = refl
-take-again (suc c) [] = refl
-take-again (suc c) (x ∷ xs) = ap (_∷_ x) (take-again c xs)
 
 -- The constants written over a buffer whose lines begin with them.
 begun : (ws buffer : List ℕ) → 2 ≤ length ws → take 2 ws ≡ constants → over constants (over ws buffer) ≡ over ws buffer

@@ -5,8 +5,8 @@ use mathlib.Core.Path.{_≡_, sym, ap, subst, _∙_}
 use mathlib.Core.Bool.{Bool, cond}
 use mathlib.Core.List.{List, [], _∷_, _++_, map}
 use lib.Dec.{eqb}
-use lib.ListN.{length, take, drop, length-append, length-drop, length-map}
-use lib.Seq.{length-take-le, take-all}
+use lib.ListN.{length, take, drop, length-map}
+use lib.Seq.{take-all}
 use Rattle.files.specs.Room.{over}
 use Rattle.netlist.specs.declared.Hold.{Hold}
 use Rattle.netlist.specs.Netlist.{gateLine, lineCount, holdsOf}
@@ -16,13 +16,14 @@ use Rattle.wiring.specs.Questions.{netlistIn}
 use Rattle.wiring.proofs.Accepted.{accepted}
 use Rattle.simulation.specs.Run.{Driver, held, workOut, holding, driversOf, valuesOf, shownBy}
 use Rattle.simulation.specs.Service.{Stepping, readBack, linesBefore, steppedValues, ranBy, runOf}
+use Rattle.simulation.proofs.Stepped.{length-before, ends-at}
 use Rattle.simulation.proofs.Whole.{taken, count-of, refusal-is, step-is, whole-step, one-step}
 use Rattle.steps.specs.Steps.{passing, countedIn, holdList}
 use Rattle.steps.specs.Promises.{StepsMakeRun, OthersNoEffect, RunIsOneStep}
 use Rattle.steps.proofs.Sites.{ofLine, ofPin, held-within, held-apart, hold-agree}
 use Rattle.steps.proofs.Ordered.{list-ordered}
 use Rattle.steps.proofs.Below.{below}
-use Rattle.steps.proofs.Accepted.{accepts, ends-at}
+use Rattle.steps.proofs.Accepted.{accepts}
 use Rattle.steps.proofs.Stands.{steps-stand}
 
 pub run-is-one-step : RunIsOneStep
@@ -34,15 +35,16 @@ others-no-effect file rails holds others place count lines pairs e f same =
     let s = step-is file rails holds place count lines pairs 0 e in
     let t = taken file rails holds place (length lines) (length pairs) (sym (refusal-is file rails holds place count lines pairs) ∙ e) in
     let out = min (place + count) (lineCount net) in
-    let ends = ends-at file rails holds place (length lines) (length pairs) count t in
+    let ends = ends-at net rails holds place count lines (count-of net rails (t .driven)) (t .from) (t .upto) in
     let alike : countedIn place out (holdsOf holds) ≡ countedIn place out (holdsOf others) =
     subst (λ (k : ℕ). countedIn place k (holdsOf holds) ≡ countedIn place k (holdsOf others)) (ap (λ (r : Stepping). r .place) s) same in
     let before = linesBefore place lines in
     let ds = take count (drop (place - 2) (driversOf rails (net .gates))) in
-    let longer = length-append (0 ∷ 1 ∷ []) (drop 2 lines) in
+    let room = t .room in
+    let upto = t .upto in
+    let from = t .from in
     let size : length (map readBack before) ≡ place =
-    length-map before readBack
-    ∙ length-take-le place (over (0 ∷ 1 ∷ []) lines) (omega (arith, longer, length-drop 2 lines, t .room, t .upto, t .from)) in
+    length-map before readBack ∙ length-before place lines (omega arith) (omega arith) in
     let vs : steppedValues net rails holds place count lines ≡ steppedValues net rails others place count lines =
     hold-agree (holdsOf holds) (holdsOf others) ds (map readBack before)
     (λ x s v l g.

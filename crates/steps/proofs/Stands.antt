@@ -17,12 +17,13 @@ use Rattle.simulation.specs.Run.{Driver, workOut, holding, driversOf, shownBy}
 use Rattle.simulation.specs.Service.{Stepping, readBack, linesBefore, steppedValues, steppedOr, stepRefusal, stepOf}
 use Rattle.simulation.proofs.Answers.{driven-bits, ordered}
 use Rattle.simulation.proofs.Runs.{run-take}
+use Rattle.simulation.proofs.Stepped.{ends-at}
 use Rattle.simulation.proofs.Whole.{Taken, taken, refusal-is, step-is, count-of}
 use Rattle.steps.specs.Steps.{countedIn, Steps, first, next}
 use Rattle.steps.proofs.Rising.{list-rises}
 use Rattle.steps.proofs.Ordered.{Ranked, none-ranked, ranked-more}
 use Rattle.steps.proofs.Below.{below, length-below, below-more, below-read, below-kept}
-use Rattle.steps.proofs.Accepted.{sound, ends-at}
+use Rattle.steps.proofs.Accepted.{sound}
 
 module _ (file rails lines : List ℕ) where
   abbrev net : Netlist
@@ -77,7 +78,7 @@ module _ (file rails lines : List ℕ) where
       ds = take count (drop (place - 2) (driversOf rails (net .gates)))
 
       ends : out ≡ place + length ds
-      ends = ends-at file rails holds place (length ls) (length pairs) count t
+      ends = ends-at net rails holds place count ls lines-of (t .from) (t .upto)
 
       read : vs ≡ workOut (holding H) ds (values counted place)
       read =

@@ -1,7 +1,6 @@
 -- `ask` meets its contract: each return is the first no that the answers lead to.
 use borrow.Author.Needs.{needs}
 use mathlib.Core.Path.{_≡_, sym, _∙_}
-use Prim.Native.Nat.{_*_}
 use Rattle.fields.specs.Refusals.{firstNo}
 use Rattle.files.specs.declared.room.Room.the-variants.{Enough}
 use Rattle.files.specs.Room.{roomOf}

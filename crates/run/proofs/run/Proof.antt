@@ -1,7 +1,7 @@
 -- `run` meets its contract: an accepted netlist has fewer lines than the step is told.
 use borrow.Author.Needs.{needs}
 use native.Mathlib.Omega.{arith}
-use mathlib.Core.Path.{_≡_, sym, ap, _∙_}
+use mathlib.Core.Path.{sym, ap, _∙_}
 use Rattle.fields.proofs.Refusals.{first-yes}
 use Rattle.wiring.proofs.Accepted.{accepted}
 use Rattle.simulation.specs.Service.{stepRefusal, ranBy}

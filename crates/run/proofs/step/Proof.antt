@@ -2,7 +2,6 @@
 use borrow.Author.Needs.{needs}
 use native.Mathlib.Omega.{arith}
 use Prim.Native.Nat.{ℕ, _+_, _/_, _≤_, _<_}
-use mathlib.Core.Path.{_≡_, _∙_}
 use mathlib.Core.List.{List}
 use lib.ListN.{length}
 use Rattle.netlist.specs.Netlist.{gateLine, gatesOf, pairsOf, netWith}
@@ -10,9 +9,8 @@ use Rattle.netlist.proofs.Lists.{length-gates, length-pairs}
 use Rattle.wiring.proofs.Opened.{Opened, opened, few-contacts, outputs-wired, lamp-wired, bounded}
 use Rattle.simulation.proofs.Answers as answers
 use Rattle.simulation.proofs.Whole.{Taken}
-use Rattle.evaluation.specs.Inner.Walk.{Ready}
 use Rattle.run.proofs.Answers.{ready, pairs-within}
-use Rattle.run.proofs.Outcomes.{unread, unanswered, given, count-is, part, whole}
+use Rattle.run.proofs.Outcomes.{unread, unanswered, given, part, whole}
 use Rattle.run.proofs.step.Statement.{statement}
 use Rattle.run.proofs.step.Tie as tie
 

@@ -1,12 +1,10 @@
 -- `service::show_at` meets its contract: the lines are worked out from the rails of the input and the one hold.
 use borrow.Author.Needs.{needs}
 use native.Mathlib.Omega.{arith}
-use Prim.Native.Nat.{ℕ, _*_}
+use Prim.Native.Nat.{_*_}
 use mathlib.Core.Path.{_≡_, sym, ap, _∙_}
-use mathlib.Core.List.{List}
 use lib.ListN.{length, take}
 use Rattle.diagram.specs.Diagram.{inputOf}
-use Rattle.files.specs.Room.{over}
 use Rattle.rules.proofs.Codes.{code-length}
 use Rattle.probe.proofs.Findings.{ready-at, shown-at}
 use Rattle.probe.proofs.service.show_at.Statement.{statement}
