@@ -1,5 +1,5 @@
-// The number that a step gets and its place out, and what is left in the two lent buffers, every line's value and every output's
-// pair and the lamp's, also where the step is refused.
+// The number that a step gets, its place out, and what is left in the two lent buffers, the lines' and the pairs', also where the
+// step is refused.
 use crate::runs;
 use run::Stepped;
 use text::print;
