@@ -14,6 +14,10 @@
 //     m NAME: TABLE / ROOM                                      what build with lamp keeps of a buffer of so many bytes
 //     r NAME: NETLIST / ROOM / FROM / HOLDS / RAILS / PAIRS     a run with two buffers, the first shown from a place on
 //     g NAME: COUNT / ROOM / FROM / HOLDS / RAILS / PAIRS       the same, of a row of so many gates
+//     c NAME: NETLIST / PLACE / COUNT / LINES / HOLDS / RAILS / PAIRS
+//                                                               a step with two buffers that have these bytes
+//     h NAME: GATES / PLACE / COUNT / ROOM / HOLDS / RAILS / PAIRS / FROM
+//                                                               the same, of a row of so many gates, with the buffers of g
 //     p NAME: TABLE / ROOM / FROM / HOLD                        a probe with a buffer that is shown from a place on
 //     s NAME: NETLIST / ROOM                                    a sheet in a buffer of so many bytes, or what is kept of it
 //     n NAME: COUNT / ROOM / FROM / TO                          the same, of a row of so many gates, from a line to before another
@@ -26,6 +30,7 @@ use views::rows;
 use views::rules;
 use views::runs;
 use views::sheets;
+use views::steps;
 use views::tables;
 
 pub fn show_all(text: &[u8]) {
@@ -78,6 +83,8 @@ fn show(kind: u8, case: &[u8]) {
         b'm' => netlists::show_kept_with_lamp(file, case),
         b'r' => runs::show(file, case),
         b'g' => runs::show_row(case),
+        b'c' => steps::show(file, case),
+        b'h' => steps::show_row(case),
         b'p' => probes::show(file, case),
         b's' => sheets::show(file, case),
         b'n' => sheets::show_row(case),

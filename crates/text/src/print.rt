@@ -38,6 +38,18 @@ fn byte(b: u8) {
     io::print_hex(STDOUT_FILENO, b as u64, 2);
 }
 
+// A text, and the bytes of a part as a case spells them.
+pub fn spelt(line: &[u8], part: &[u8]) {
+    text(line);
+    if part.len() == 0 {
+        text(b"none");
+    }
+    for i in 0..part.len() {
+        let sign = [spelling::sign_of(part[i])];
+        text(&sign);
+    }
+}
+
 // A buffer whose first bytes are lent, as points.
 pub type Lent = [u8; 10610];
 

@@ -1,6 +1,6 @@
 // The parts of a case. Bytes are spelt with one sign each: 0 to 9, a to z for 10 to 35, A to Z and the six signs behind Z for 36
-// to 67, the three signs behind z for 127 to 129. Numbers are written with digits. Signs below 0, the space among them, stand for
-// nothing, but a stroke ends a part.
+// to 67, the three signs behind z for 127 to 129, @ for 255. Numbers are written with digits. Signs below 0, the space among them,
+// stand for nothing, but a stroke ends a part.
 use crate::print;
 ghost use Prim.Native.Nat.{_+_, _≤_, _<_};
 ghost use lib.ListN.{length};
@@ -45,15 +45,18 @@ pub fn spell(text: &[u8], case: &mut [u8; 1024]) -> bool {
     0 < text.len()
 }
 
-const NO_BYTE: u8 = 255;
+const NO_BYTE: u8 = 254;
 
 // The byte that a sign from 0 up stands for, if any.
 fn byte_of(sign: u8) -> u8 {
     if sign < 58 {
         return sign % 48;
     }
-    if sign < 65 {
+    if sign < 64 {
         return NO_BYTE;
+    }
+    if sign == b'@' {
+        return 255;
     }
     if sign < 97 {
         return sign - 29;
@@ -65,6 +68,29 @@ fn byte_of(sign: u8) -> u8 {
         return sign + 4;
     }
     NO_BYTE
+}
+
+// The sign that stands for a byte, or a question mark if none does.
+pub fn sign_of(byte: u8) -> u8 {
+    if byte < 10 {
+        return byte + 48;
+    }
+    if byte < 36 {
+        return byte + 87;
+    }
+    if byte < 68 {
+        return byte + 29;
+    }
+    if byte == 255 {
+        return b'@';
+    }
+    if byte < 127 {
+        return b'?';
+    }
+    if byte < 130 {
+        return byte - 4;
+    }
+    b'?'
 }
 
 // Writes the length of a field that starts and ends at a place.
