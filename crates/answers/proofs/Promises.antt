@@ -25,7 +25,8 @@ use Rattle.faults.proofs.Betrayed.{betrayed}
 use Rattle.faults.proofs.Spare.{gates-read}
 use Rattle.stuck.specs.Service.{oneHold, probeRefusal, probingOf}
 use Rattle.stuck.proofs.Fanouts.{read-zero}
-use Rattle.stuck.proofs.OneHold.{one-hold, one-held, held-line, ordered-zero}
+use Rattle.simulation.proofs.Answers.{ordered-zero}
+use Rattle.stuck.proofs.OneHold.{one-hold, one-held, held-line}
 use Rattle.answers.specs.Answers.{probeOf}
 use Rattle.answers.specs.Promises.{Smallest, HiddenIfUnseen, LinesSeen, FifteenForLines, ProbeWrites}
 use Rattle.answers.proofs.OneHold.{none-betrays, not-seen, hidden-by, input-by, answered}

@@ -11,9 +11,11 @@ use lib.Dec.{eqb}
 use lib.ListN.{length, getD, List·getD-eq-default}
 use Rattle.fields.specs.Bounded.{all}
 use Rattle.fields.proofs.Bounded.{all-at}
+use Rattle.drive.specs.declared.Rails.{Rails}
 use Rattle.drive.specs.declared.Rails.the-variants.{Driven, Undriven}
+use Rattle.drive.specs.declared.Holds.{Holds}
 use Rattle.drive.specs.declared.Holds.the-variants.{Ordered, Disordered}
-use Rattle.drive.specs.Questions.{isBit, railsOf, areHolds, areOrdered, orderOf}
+use Rattle.drive.specs.Questions.{isBit, railsOf, railsNumber, areHolds, areOrdered, orderOf, holdsNumber}
 
 -- The yes of each question.
 driven-by : (n : ℕ) (rails : List ℕ) → railsOf n rails ≡ Driven → (eqb (length rails) (2 * n) ≡ true) × (all (2 * n) (isBit rails) ≡ true)
@@ -41,3 +43,11 @@ ordered first lines holds = go (eqb (length holds % 3) 0) (areHolds first lines 
     go true true e = refl
     go true false e = absurd (let z : _≡_ {A = ℕ} 0 1 = cc in omega arith)
     go false b e = absurd (let z : _≡_ {A = ℕ} 0 1 = cc in omega arith)
+
+pub driven-zero : (r : Rails) → railsNumber r ≡ 0 → r ≡ Driven
+driven-zero Driven e = refl
+driven-zero Undriven e = absurd (omega arith)
+
+pub ordered-zero : (h : Holds) → holdsNumber h ≡ 0 → h ≡ Ordered
+ordered-zero Ordered e = refl
+ordered-zero Disordered e = absurd (omega arith)

@@ -13,27 +13,17 @@ use Rattle.files.specs.declared.room.Room.the-variants.{Enough, Short}
 use Rattle.files.specs.Room.{over, roomOf, roomNumber}
 use Rattle.netlist.specs.Netlist.{Netlist, gateLine, lineCount, holdsOf}
 use Rattle.wiring.specs.Questions.{netlistIn}
-use Rattle.drive.specs.declared.Rails.{Rails}
-use Rattle.drive.specs.declared.Rails.the-variants.{Driven, Undriven}
-use Rattle.drive.specs.declared.Holds.{Holds}
-use Rattle.drive.specs.declared.Holds.the-variants.{Ordered, Disordered}
+use Rattle.drive.specs.declared.Rails.the-variants.{Driven}
+use Rattle.drive.specs.declared.Holds.the-variants.{Ordered}
 use Rattle.drive.specs.declared.Place.the-variants.{Within, Outside}
-use Rattle.drive.specs.Questions.{railsOf, railsNumber, orderOf, holdsNumber, placeOf, placeNumber}
+use Rattle.drive.specs.Questions.{railsOf, orderOf, placeOf, placeNumber}
 use Rattle.simulation.specs.Run.{Driver, workOut, holding, driversOf, valuesOf, shownBy}
 use Rattle.simulation.specs.Service.{Stepping, linesBefore, steppedValues, steppedOr, stepRefusal, stepOf, ranBy, runOf}
-use Rattle.simulation.proofs.Answers.{driven}
+use Rattle.simulation.proofs.Answers.{driven, driven-zero, ordered-zero}
 use Rattle.simulation.proofs.Runs.{run-take}
 use Rattle.simulation.proofs.Worked.{length-drivers}
 
--- What a yes to questions 13, 14, 21 and 9 says.
-rails-yes : (r : Rails) → railsNumber r ≡ 0 → r ≡ Driven
-rails-yes Driven e = refl
-rails-yes Undriven e = absurd (omega arith)
-
-holds-yes : (h : Holds) → holdsNumber h ≡ 0 → h ≡ Ordered
-holds-yes Ordered e = refl
-holds-yes Disordered e = absurd (omega arith)
-
+-- What a yes to questions 21 and 9 says.
 place-yes : (lines place : ℕ) → placeNumber (placeOf lines place) ≡ 0 → (2 ≤ place) × (place ≤ lines)
 place-yes lines place = go (leb 2 place) (leb place lines) refl refl
   where
@@ -71,8 +61,8 @@ taken file rails holds place lines pairs e =
     let g = first-yes _ _ (f .1) in
     let p = place-yes _ _ (d .0) in
     record {
-      driven = rails-yes _ (b .0);
-      ordered = holds-yes _ (c .0);
+      driven = driven-zero _ (b .0);
+      ordered = ordered-zero _ (c .0);
       from = p .0;
       upto = p .1;
       room = room-yes _ _ (f .0);

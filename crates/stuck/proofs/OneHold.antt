@@ -9,10 +9,9 @@ use lib.Dec.{eqb, leb}
 use lib.ListN.{length}
 use Rattle.netlist.specs.declared.Hold.{Hold}
 use Rattle.netlist.specs.Netlist.{holdAt, holdsOf, siteOf}
-use Rattle.drive.specs.declared.Holds.{Holds}
 use Rattle.drive.specs.declared.Holds.the-variants.{Ordered, Disordered}
 use Rattle.fields.specs.Bounded.{listed}
-use Rattle.drive.specs.Questions.{areHolds, areOrdered, holdsNumber}
+use Rattle.drive.specs.Questions.{areHolds, areOrdered}
 use Rattle.drive.proofs.Tests.{HoldIn, holds-at}
 use Rattle.stuck.specs.Service.{oneHold}
 
@@ -43,7 +42,3 @@ line-after {first} {h = h} l p = go (leb (h .value) 1) (p .after) (p .gate)
     go : (b : Bool) → 1 < cond b (h .line) (65536 + 2 * h .line + siteOf h) → (b || leb first (h .line)) ≡ true → 2 ≤ h .line
     go true after gate = omega arith
     go false after gate = let from : first ≤ h .line = leb-true _ _ gate in omega arith
-
-pub ordered-zero : (h : Holds) → holdsNumber h ≡ 0 → h ≡ Ordered
-ordered-zero Ordered e = refl
-ordered-zero Disordered e = absurd (omega arith)
