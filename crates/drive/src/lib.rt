@@ -30,8 +30,11 @@ pub fn ask_rails(n: usize, rails: &[u8]) -> Rails
     if rails.len() != 2 * n {
         return Rails::Undriven;
     }
-    for i in 0..rails.len() {
-        if 1 < rails[i] {
+    for i in 0..n {
+        if 1 < rails[2 * i] {
+            return Rails::Undriven;
+        }
+        if 1 < rails[2 * i + 1] {
             return Rails::Undriven;
         }
     }

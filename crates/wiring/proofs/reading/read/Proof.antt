@@ -47,9 +47,6 @@ value-requires-2 c κs = search needs
 value-requires-3 : tie.Need-value-requires-3
 value-requires-3 c κs = search needs
 
-ask-wiring-requires : tie.Need-ask-wiring-requires
-ask-wiring-requires c κs = well-formed _ _ (form c) .most
-
 enum-told-2 : tie.Need-enum-told-2
 enum-told-2 c = search needs
 
@@ -74,6 +71,11 @@ lamp : (c : tie.After-value3) → c .value3 .result .now ≡ valueIn (fieldsOf (
 lamp c =
     c .value3 .ensures
     ∙ ap (λ (i : Item). i .value) (c .before .before .before .before .before .before .before .before .before .before .first-four .ensures .fourth)
+
+ask-wiring-requires : tie.Need-ask-wiring-requires
+ask-wiring-requires c κs =
+    let yes = well-formed _ _ (form c) in
+    (yes .most, rw (gates c) (yes .gates .most))
 
 returns-2 : tie.Need-returns-2
 returns-2 c =

@@ -1,10 +1,11 @@
 -- `sound::gates_sound` meets its contract. The loop's invariant: each gate passed is sound.
 use borrow.Author.Needs.{needs}
-use borrow.Author.Tests.{le-leb, lt-leb, le-ltb, lt-ltb}
+use borrow.Author.Tests.{le-leb, lt-leb, not-true, not-false}
 use native.Mathlib.Omega.{arith}
-use Prim.Native.Nat.{_+_, _-_, _/_, _≤_}
-use mathlib.Core.Path.{_≡_, refl, sym, ap, _∙_}
-use mathlib.Core.Bool.{true}
+use Prim.Native.Nat.{_+_, _-_, _*_, _/_, _≤_}
+use mathlib.Core.Path.{_≡_, refl, sym, _∙_}
+use mathlib.Core.Bool.{true, _&&_}
+use lib.Dec.{ltb}
 use lib.ListN.{length}
 use Rattle.fields.specs.Bounded.{all}
 use Rattle.fields.proofs.Bounded.{all-none, all-more, all-not}
@@ -23,39 +24,43 @@ abbrev μ-loop : tie.MeasureT-loop
 loop-holds : tie.Need-loop-holds Inv-loop μ-loop
 loop-holds c = (refl, omega arith, all-none _)
 
-gate-at-requires : tie.Need-gate-at-requires Inv-loop μ-loop
-gate-at-requires c κs = search needs
+mul-if1 : tie.Need-mul-if1 Inv-loop μ-loop
+mul-if1 c = search needs
+
+shared-slice-read-if1 : tie.Need-shared-slice-read-if1 Inv-loop μ-loop
+shared-slice-read-if1 c = search needs
 
 returns : tie.Need-returns Inv-loop μ-loop
-returns c =
-    let turn = c .before .before .before in
-    sym (all-not _ _ (turn .before .loop .g) (omega arith)
-    (sym (ap (isGate _) (c .before .before .gate-at .ensures)) ∙ simp (lt-leb _ _ (c .if1 .taken))))
+returns c = sym (all-not _ _ (c .before .before .before .loop .g) (omega arith) (simp (lt-leb _ _ (c .if1 .taken))))
 
-add-if2 : tie.Need-add-if2 Inv-loop μ-loop
-add-if2 c = search needs
+mul-both-below : tie.Need-mul-both-below Inv-loop μ-loop
+mul-both-below c = search needs
 
-cast-if2 : tie.Need-cast-if2 Inv-loop μ-loop
-cast-if2 c = search needs
+add-both-below : tie.Need-add-both-below Inv-loop μ-loop
+add-both-below c = search needs
+
+add-both-below-2 : tie.Need-add-both-below-2 Inv-loop μ-loop
+add-both-below-2 c = search needs
+
+both-below-requires : tie.Need-both-below-requires Inv-loop μ-loop
+both-below-requires c κs = search needs
+
+-- What the gate's two sources answer.
+below : (c : tie.After-both-below Inv-loop μ-loop) →
+    let loop = c .before .before .before .before in
+    let line = loop .before .before .args .first + loop .loop .g in
+    let gate = gateAt (loop .before .before .args .gates .now) (loop .loop .g) in
+    c .both-below .result ≡ (ltb (gate .left) line && ltb (gate .right) line)
+below c =
+    let g = c .before .before .before .before .loop .g in
+    let right : 5 * g + 1 + 2 ≡ 5 * g + 3 = omega arith in
+    rw right at (c .both-below .ensures)
 
 returns-2 : tie.Need-returns-2 Inv-loop μ-loop
 returns-2 c =
-    let gate = c .before .before .before .before in
-    sym (all-not _ _ (gate .before .before .loop .g) (omega arith)
-    (sym (ap (isGate _) (gate .gate-at .ensures)) ∙ simp (le-leb _ _ (c .before .before .if1 .left), le-ltb _ _ (c .if2 .taken))))
-
-add-if3 : tie.Need-add-if3 Inv-loop μ-loop
-add-if3 c = search needs
-
-cast-if3 : tie.Need-cast-if3 Inv-loop μ-loop
-cast-if3 c = search needs
-
-returns-3 : tie.Need-returns-3 Inv-loop μ-loop
-returns-3 c =
-    let gate = c .before .before .before .before .before .before in
-    sym (all-not _ _ (gate .before .before .loop .g) (omega arith)
-    (sym (ap (isGate _) (gate .gate-at .ensures))
-    ∙ simp (le-leb _ _ (c .before .before .before .before .if1 .left), lt-ltb _ _ (c .before .before .if2 .left), le-ltb _ _ (c .if3 .taken))))
+    let told = c .before in
+    sym (all-not _ _ (told .before .before .before .before .loop .g) (omega arith)
+    (simp (le-leb _ _ (told .before .if1 .left)) (sym (below told) ∙ not-true _ (c .if2 .taken))))
 
 add-g : tie.Need-add-g Inv-loop μ-loop
 add-g c = search needs
@@ -65,17 +70,15 @@ loop-less c = search needs
 
 loop-again : tie.Need-loop-again Inv-loop μ-loop
 loop-again c =
-    let gate = c .before .before .before .before .before .before in
-    let inv = gate .before .before .loop .inv in (
+    let told = c .before in
+    let inv = told .before .before .before .before .loop .inv in (
       inv .0,
       omega arith,
-      all-more _ _ (inv .2)
-          (sym (ap (isGate _) (gate .gate-at .ensures))
-          ∙ simp (le-leb _ _ (c .before .before .before .before .if1 .left), lt-ltb _ _ (c .before .before .if2 .left), lt-ltb _ _ (c .if3 .left))),
+      all-more _ _ (inv .2) (simp (le-leb _ _ (told .before .if1 .left)) (sym (below told) ∙ not-false _ (c .if2 .left))),
     )
 
-returns-4 : tie.Need-returns-4 Inv-loop μ-loop
-returns-4 c =
+returns-3 : tie.Need-returns-3 Inv-loop μ-loop
+returns-3 c =
     let inv = c .before .loop .inv in
     let done : c .before .loop .g ≡ length (c .before .before .before .args .gates .now) / 5 = omega arith in
     sym (rw done at (inv .2))
@@ -87,15 +90,15 @@ gates-sound-spec =
     Inv-loop
     μ-loop
     loop-holds
-    gate-at-requires
+    mul-if1
+    shared-slice-read-if1
     returns
-    add-if2
-    cast-if2
+    mul-both-below
+    add-both-below
+    add-both-below-2
+    both-below-requires
     returns-2
-    add-if3
-    cast-if3
-    returns-3
     add-g
     loop-less
     loop-again
-    returns-4)
+    returns-3)

@@ -1,9 +1,9 @@
 -- `sound::pairs_sound` meets its contract. The loop's invariant: each output passed has its lines in the netlist.
 use borrow.Author.Needs.{needs}
-use borrow.Author.Tests.{le-ltb, lt-ltb}
+use borrow.Author.Tests.{not-true, not-false}
 use native.Mathlib.Omega.{arith}
 use Prim.Native.Nat.{_-_, _/_, _≤_}
-use mathlib.Core.Path.{_≡_, refl, sym, ap, _∙_}
+use mathlib.Core.Path.{_≡_, refl, sym, _∙_}
 use mathlib.Core.Bool.{true}
 use lib.ListN.{length}
 use Rattle.fields.specs.Bounded.{all}
@@ -23,26 +23,16 @@ abbrev μ-loop : tie.MeasureT-loop
 loop-holds : tie.Need-loop-holds Inv-loop μ-loop
 loop-holds c = (refl, omega arith, all-none _)
 
-pair-at-requires : tie.Need-pair-at-requires Inv-loop μ-loop
-pair-at-requires c κs = search needs
+mul-both-below : tie.Need-mul-both-below Inv-loop μ-loop
+mul-both-below c = search needs
 
-cast-if1 : tie.Need-cast-if1 Inv-loop μ-loop
-cast-if1 c = search needs
+both-below-requires : tie.Need-both-below-requires Inv-loop μ-loop
+both-below-requires c κs = search needs
 
 returns : tie.Need-returns Inv-loop μ-loop
 returns c =
-    let pair = c .before .before in
-    sym (all-not _ _ (pair .before .before .loop .j) (omega arith)
-    (sym (ap (isPair _) (pair .pair-at .ensures)) ∙ simp (le-ltb _ _ (c .if1 .taken))))
-
-cast-if2 : tie.Need-cast-if2 Inv-loop μ-loop
-cast-if2 c = search needs
-
-returns-2 : tie.Need-returns-2 Inv-loop μ-loop
-returns-2 c =
-    let pair = c .before .before .before .before in
-    sym (all-not _ _ (pair .before .before .loop .j) (omega arith)
-    (sym (ap (isPair _) (pair .pair-at .ensures)) ∙ simp (lt-ltb _ _ (c .before .before .if1 .left), le-ltb _ _ (c .if2 .taken))))
+    let told = c .before in
+    sym (all-not _ _ (told .before .before .loop .j) (omega arith) (sym (told .both-below .ensures) ∙ not-true _ (c .if1 .taken)))
 
 add-j : tie.Need-add-j Inv-loop μ-loop
 add-j c = search needs
@@ -52,16 +42,12 @@ loop-less c = search needs
 
 loop-again : tie.Need-loop-again Inv-loop μ-loop
 loop-again c =
-    let pair = c .before .before .before .before in
-    let inv = pair .before .before .loop .inv in (
-      inv .0,
-      omega arith,
-      all-more _ _ (inv .2)
-          (sym (ap (isPair _) (pair .pair-at .ensures)) ∙ simp (lt-ltb _ _ (c .before .before .if1 .left), lt-ltb _ _ (c .if2 .left))),
-    )
+    let told = c .before in
+    let inv = told .before .before .loop .inv in
+    (inv .0, omega arith, all-more _ _ (inv .2) (sym (told .both-below .ensures) ∙ not-false _ (c .if1 .left)))
 
-returns-3 : tie.Need-returns-3 Inv-loop μ-loop
-returns-3 c =
+returns-2 : tie.Need-returns-2 Inv-loop μ-loop
+returns-2 c =
     let inv = c .before .loop .inv in
     let done : c .before .loop .j ≡ length (c .before .before .before .args .pairs .now) / 4 = omega arith in
     sym (rw done at (inv .2))
@@ -73,12 +59,10 @@ pairs-sound-spec =
     Inv-loop
     μ-loop
     loop-holds
-    pair-at-requires
-    cast-if1
+    mul-both-below
+    both-below-requires
     returns
-    cast-if2
-    returns-2
     add-j
     loop-less
     loop-again
-    returns-3)
+    returns-2)
