@@ -3,6 +3,7 @@ use drive::Holds;
 use drive::Place;
 use drive::Rails;
 use files::Room;
+use wiring::Parts;
 ghost use mathlib.Core.Path.{_≡_};
 ghost use mathlib.Core.Bool.{true};
 ghost use mathlib.Core.List.{_++_, map};
@@ -12,6 +13,7 @@ ghost use lib.Seq.{sets};
 ghost use Rattle.files.specs.Room.{over};
 ghost use Rattle.netlist.specs.Netlist.{pairsOf};
 ghost use Rattle.wiring.specs.Questions.{arePairs};
+ghost use Rattle.wiring.specs.Inner.Read.{Read};
 ghost use Rattle.simulation.specs.Run.{shownOf};
 ghost use Rattle.simulation.specs.Service.{readBack, stepOf, runOf};
 ghost use Rattle.run.specs.Inner.Asking.{askingOf};
@@ -94,11 +96,10 @@ fn ask(
     0
 }
 
-// Sets the constants and works out so many lines from a place on, or all that are left if these are fewer, with lines and pins held;
-// returns the place after them. The line values go to the first buffer; to the second, if no line is left, two bytes an output and,
-// last, two for the lamp. A refusal leaves both as they came.
-pub fn step(
+// A step of a netlist that has been read: what both services do.
+fn step_read(
     netlist: &[u8],
+    parts: Parts,
     rails: &[u8],
     holds: &[u8],
     place: u32,
@@ -106,10 +107,10 @@ pub fn step(
     lines: &mut [u8],
     pairs: &mut [u8],
 ) -> Stepped
+    requires { ⌜ Read (now netlist) parts ⌝ }
     ensures { λ r. ⌜ record { refusal = r .refusal; place = r .place; lines = now (lines .exit); pairs = now (pairs .exit) }
         ≡ stepOf (now (netlist .entry)) (now (rails .entry)) (now (holds .entry)) place count (now (lines .entry)) (now (pairs .entry)) ⌝ }
 {
-    let parts = wiring::read(netlist);
     let refusal = parts.refusal;
     if refusal != 0 {
         return refused(refusal);
@@ -141,11 +142,31 @@ pub fn step(
     }
 }
 
+// Sets the constants and works out so many lines from a place on, or all that are left if these are fewer, with lines and pins held;
+// returns the place after them. The line values go to the first buffer; to the second, if no line is left, two bytes an output and,
+// last, two for the lamp. A refusal leaves both as they came.
+pub fn step(
+    netlist: &[u8],
+    rails: &[u8],
+    holds: &[u8],
+    place: u32,
+    count: u32,
+    lines: &mut [u8],
+    pairs: &mut [u8],
+) -> Stepped
+    ensures { λ r. ⌜ record { refusal = r .refusal; place = r .place; lines = now (lines .exit); pairs = now (pairs .exit) }
+        ≡ stepOf (now (netlist .entry)) (now (rails .entry)) (now (holds .entry)) place count (now (lines .entry)) (now (pairs .entry)) ⌝ }
+{
+    let parts = wiring::read(netlist);
+    step_read(netlist, parts, rails, holds, place, count, lines, pairs)
+}
+
 // Works out every line's value with lines and pins held: one step from line 2 over all lines.
 pub fn run(netlist: &[u8], rails: &[u8], holds: &[u8], lines: &mut [u8], pairs: &mut [u8]) -> u32
     ensures { λ r. ⌜ record { refusal = r; lines = now (lines .exit); pairs = now (pairs .exit) }
         ≡ runOf (now (netlist .entry)) (now (rails .entry)) (now (holds .entry)) (now (lines .entry)) (now (pairs .entry)) ⌝ }
 {
-    let stepped = step(netlist, rails, holds, 2, 4_294_967_295, lines, pairs);
+    let parts = wiring::read(netlist);
+    let stepped = step_read(netlist, parts, rails, holds, 2, 4_294_967_295, lines, pairs);
     stepped.refusal
 }

@@ -9,8 +9,11 @@ use Rattle.simulation.proofs.Whole.{one-step}
 use Rattle.run.proofs.run.Statement.{statement}
 use Rattle.run.proofs.run.Tie as tie
 
-step-requires : tie.Need-step-requires
-step-requires c κs = search needs
+read-requires : tie.Need-read-requires
+read-requires c κs = search needs
+
+step-read-requires : tie.Need-step-read-requires
+step-read-requires c κs = c .before .before .read .ensures
 
 same-length : tie.Need-same-length
 same-length c = search needs
@@ -21,11 +24,11 @@ same-length-2 c = search needs
 returns : tie.Need-returns
 unfolding stepRefusal
 returns c =
-    let a = c .before .before .before .before .before .before .before .before .before .before .before .before .args in
-    ap ranBy (c .before .before .before .before .step .ensures)
+    let a = c .before .before .before .before .before .before .before .before .before .before .before .before .before .args in
+    ap ranBy (c .before .before .before .before .step-read .ensures)
     ∙ sym (one-step (a .netlist .now) (a .rails .now) (a .holds .now) (a .lines .now) (a .pairs .now) _ (λ e.
     let b = accepted (a .netlist .now) (first-yes _ _ e .0) .bounds in
     omega (arith, b .gates, b .most)))
 
 pub run-spec : {M : Type 1} → statement M
-run-spec = tie.close (tie.spec step-requires same-length same-length-2 returns)
+run-spec = tie.close (tie.spec read-requires step-read-requires same-length same-length-2 returns)
