@@ -18,6 +18,19 @@ static unsigned two_bytes(const uint8_t *at)
     return (unsigned)at[0] << 8 | at[1];
 }
 
+/* Two numbers of two bytes each, the first in the high half. */
+static uint32_t two_numbers(const uint8_t *at)
+{
+    uint32_t both;
+    memcpy(&both, at, sizeof both);
+    return __builtin_bswap32(both);
+}
+
+static bool both_below(uint32_t both, uint32_t bound)
+{
+    return both < bound << 16 && both << 16 < bound << 16;
+}
+
 /* The place of the first field from a place on that is no note; past the file's end if a note is cut short. */
 static size_t pass_notes(const uint8_t *file, size_t length, size_t at)
 {
@@ -418,10 +431,10 @@ static bool netlist_fields(const uint8_t *file, size_t length, struct netlist *n
 
 static bool pairs_good(const struct netlist *n, unsigned lines)
 {
-    for (unsigned k = 0; k < 2 * n->outputs; k++)
-        if (two_bytes(n->output + 2 * k) >= lines)
+    for (unsigned k = 0; k < n->outputs; k++)
+        if (!both_below(two_numbers(n->output + 4 * k), lines))
             return false;
-    return n->lamp == NULL || (two_bytes(n->lamp) < lines && two_bytes(n->lamp + 2) < lines);
+    return n->lamp == NULL || both_below(two_numbers(n->lamp), lines);
 }
 
 static bool rails_good(const uint8_t *rails, size_t count)
@@ -472,7 +485,7 @@ static bool take_holds(const uint8_t *holds, size_t length, unsigned first, unsi
 static bool gates_good(const uint8_t *gate, unsigned from, unsigned to)
 {
     for (unsigned line = from; line < to; line++, gate += 5)
-        if (gate[0] > 1 || two_bytes(gate + 1) >= line || two_bytes(gate + 3) >= line)
+        if (gate[0] > 1 || !both_below(two_numbers(gate + 1), line))
             return false;
     return true;
 }
@@ -481,10 +494,10 @@ static bool gates_good(const uint8_t *gate, unsigned from, unsigned to)
 static bool work_out(const uint8_t *gate, unsigned from, unsigned to, const uint8_t *truth, uint8_t *value)
 {
     for (unsigned line = from; line < to; line++, gate += 5) {
-        unsigned left = two_bytes(gate + 1), right = two_bytes(gate + 3);
-        if (gate[0] > 1 || left >= line || right >= line)
+        uint32_t sources = two_numbers(gate + 1);
+        if (gate[0] > 1 || !both_below(sources, line))
             return false;
-        value[line] = truth[line] >> (value[left] + 2 * value[right] + 4 * gate[0]) & 1;
+        value[line] = truth[line] >> (value[sources >> 16] + 2 * value[sources & 0xffff] + 4 * gate[0]) & 1;
     }
     return true;
 }
