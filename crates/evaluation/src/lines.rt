@@ -167,17 +167,11 @@ fn put_all(
         if stop == to {
             return;
         }
-        cursor = put_pinned(
-            gates,
-            rails,
-            holds,
-            Cursor {
-                line: reached,
-                pin: on_pin,
-            },
-            stop,
-            lines,
-        );
+        let here = Cursor {
+            line: reached,
+            pin: on_pin,
+        };
+        cursor = put_pinned(gates, rails, holds, here, stop, lines);
         at = stop + 1;
     }
 }

@@ -91,14 +91,14 @@ module _ (file rails holds : List ℕ) (place count : ℕ) (lines pairs : List �
         unfolding stepOf
         leaves p = rw (none, net-is o) (λ i. record { refusal = 0; place = out i; lines = lines-left i; pairs = p i })
 
-        pub part : to < end → StepLeaves 0 to ls pairs
-        part h =
+        pub part : {ps : List ℕ} → (to ≡ end → ⊥) → ps ≡ pairs → StepLeaves 0 to ls ps
+        part h p =
             leaves
-            (sym (ap (λ (b : Bool). cond b (over (shownBy net values) pairs) pairs)
-            (ne-eqb (min (place + count) (lineCount net)) (lineCount net) (λ e. omega (arith, out, count-is)))))
+            (p ∙ sym (ap (λ (b : Bool). cond b (over (shownBy net values) pairs) pairs)
+            (ne-eqb (min (place + count) (lineCount net)) (lineCount net) (λ e. h (omega (arith, out, count-is))))))
 
         -- The pairs are those of the step's values.
-        shown : end ≤ to → (v : List ℕ) → arePairs end v ≡ true → shownOf (pairsOf v) (map readBack ls) ≡ shownOf (pairsOf v) values
+        shown : to ≡ end → (v : List ℕ) → arePairs end v ≡ true → shownOf (pairsOf v) (map readBack ls) ≡ shownOf (pairsOf v) values
         shown h v wired =
             shown-same end (map readBack ls) values
             (λ i k. ap (λ (us : List ℕ). getD (map readBack us) i 0) lines-left
@@ -108,7 +108,7 @@ module _ (file rails holds : List ℕ) (place count : ℕ) (lines pairs : List �
             (λ j m. rw (getD-pairs v j (pairAt v 0) (omega (arith, length-pairs v)))
             (pairs-at end v wired j (omega (arith, length-pairs v))))
 
-        pub whole : {ps : List ℕ} → end ≤ to →
+        pub whole : {ps : List ℕ} → to ≡ end →
             ps ≡ over (shownOf (pairsOf outputs) (map readBack ls) ++ shownOf (pairsOf lamp) (map readBack ls)) pairs → StepLeaves 0 to ls ps
         whole h p =
             leaves

@@ -127,18 +127,13 @@ fn step_read(
         return refused(no);
     }
     let to = evaluation::lesser(from + count as usize, end);
-    let out = to as u32;
     evaluation::work_out(gates, rails, holds, from, to, lines);
-    if to < end {
-        return Stepped {
-            refusal: 0,
-            place: out,
-        };
+    if to == end {
+        show(outputs, lamp, lines, pairs);
     }
-    show(outputs, lamp, lines, pairs);
     Stepped {
         refusal: 0,
-        place: out,
+        place: to as u32,
     }
 }
 

@@ -2,7 +2,9 @@
 use borrow.Author.Needs.{needs}
 use native.Mathlib.Omega.{arith}
 use Prim.Native.Nat.{ℕ, _+_, _/_, _≤_, _<_}
+use mathlib.Core.Path.{ap, _∙_}
 use mathlib.Core.List.{List}
+use mathlib.Core.Logic.{⊎-elim}
 use lib.ListN.{length}
 use Rattle.netlist.specs.Netlist.{gateLine, gatesOf, pairsOf, netWith}
 use Rattle.netlist.proofs.Lists.{length-gates, length-pairs}
@@ -103,9 +105,6 @@ add-lesser c = search needs
 lesser-requires : tie.Need-lesser-requires
 lesser-requires c κs = search needs
 
-cast-out : tie.Need-cast-out
-cast-out c = omega (arith, c .lesser .ensures, small (parted c))
-
 work-out-requires : tie.Need-work-out-requires
 work-out-requires c κs =
     let m = c .before in
@@ -119,15 +118,6 @@ work-out-requires c κs =
       (t .from, omega (arith, t .upto), omega arith),
     )
 
-same-length : tie.Need-same-length
-same-length c = search needs
-
-returns-3 : tie.Need-returns-3
-returns-3 c =
-    let m = c .before .before .before .before .before in
-    part _ _ _ _ _ _ _ (open! (parted m)) (m .before .before .ask .ensures) (m .before .if2 .left) (m .lesser .ensures)
-    (c .before .before .before .work-out .ensures) (omega (arith, c .if3 .taken, m .lesser .ensures))
-
 show-requires : tie.Need-show-requires
 show-requires c κs =
     let m = c .before .before .before .before .before .before .before in
@@ -140,18 +130,24 @@ show-requires c κs =
       omega (arith, t .paired, length-pairs (outputs v), length-pairs (lamp v)),
     )
 
+cast-t32 : tie.Need-cast-t32
+cast-t32 c = let m = c .before .before .before .before .before in omega (arith, m .lesser .ensures, small (parted m))
+
+same-length : tie.Need-same-length
+same-length c = search needs
+
 same-length-2 : tie.Need-same-length-2
-same-length-2 c = search needs
+same-length-2 c = ⊎-elim (λ w. ap length (w .6) ∙ w .3 .kept .1 .1 .1 .0) (λ w. ap length (w .1)) (c .if3 .came)
 
-same-length-3 : tie.Need-same-length-3
-same-length-3 c = search needs
-
-returns-4 : tie.Need-returns-4
-returns-4 c =
-    let m = c .before .before .before .before .before .before .before .before .before .before in
-    whole _ _ _ _ _ _ _ (open! (parted m)) (m .before .before .ask .ensures) (m .before .if2 .left) (m .lesser .ensures)
-    (c .before .before .before .before .before .before .before .before .work-out .ensures)
-    (omega (arith, c .before .before .before .before .before .if3 .left)) (c .before .before .show .ensures)
+returns-3 : tie.Need-returns-3
+returns-3 c =
+    let m = c .before .before .before .before .before in
+    let o = open! (parted m) in
+    let asked = m .before .before .ask .ensures in
+    let yes = m .before .if2 .left in
+    let worked = c .before .before .before .work-out .ensures in
+    ⊎-elim (λ w. whole _ _ _ _ _ _ _ o asked yes (m .lesser .ensures) worked (omega (arith, w .0 .taken)) (w .6 ∙ w .3 .ensures))
+    (λ w. part _ _ _ _ _ _ _ o asked yes (m .lesser .ensures) worked (w .0 .left) (w .1)) (c .if3 .came)
 
 pub step-read-spec : {M : Type 1} → statement M
 step-read-spec =
@@ -171,11 +167,9 @@ step-read-spec =
     returns-2
     add-lesser
     lesser-requires
-    cast-out
     work-out-requires
-    same-length
-    returns-3
     show-requires
+    cast-t32
+    same-length
     same-length-2
-    same-length-3
-    returns-4)
+    returns-3)
