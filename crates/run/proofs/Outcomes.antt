@@ -86,16 +86,16 @@ module _ (file rails holds : List ℕ) (place count : ℕ) (lines pairs : List �
             (ap (λ (k : ℕ). take (k - place) (drop (place - 2) (driversOf rails (gatesOf gates)))) out
             ∙ as-many net rails holds place count lines (count-of net rails (given .driven)) (given .from) (given .upto))
 
-        leaves : {ps : List ℕ} → ps ≡ cond (eqb (min (place + count) (lineCount net)) (lineCount net)) (over (shownBy net values) pairs) pairs →
-            StepLeaves 0 to ls ps
+        leaves : {q : ℕ} {ps : List ℕ} → q ≡ to → ps ≡ cond (eqb (min (place + count) (lineCount net)) (lineCount net)) (over (shownBy net values) pairs) pairs →
+            StepLeaves 0 q ls ps
         unfolding stepOf
-        leaves p = rw (none, net-is o) (λ i. record { refusal = 0; place = out i; lines = lines-left i; pairs = p i })
+        leaves e p = rw (none, net-is o) (λ i. record { refusal = 0; place = (e ∙ out) i; lines = lines-left i; pairs = p i })
 
-        pub part : {ps : List ℕ} → (to ≡ end → ⊥) → ps ≡ pairs → StepLeaves 0 to ls ps
-        part h p =
-            leaves
+        pub part : {q : ℕ} {ps : List ℕ} → q ≡ to → (to ≡ end → ⊥) → ps ≡ pairs → StepLeaves 0 q ls ps
+        part e h p =
+            leaves e
             (p ∙ sym (ap (λ (b : Bool). cond b (over (shownBy net values) pairs) pairs)
-            (ne-eqb (min (place + count) (lineCount net)) (lineCount net) (λ e. h (omega (arith, out, count-is))))))
+            (ne-eqb (min (place + count) (lineCount net)) (lineCount net) (λ f. h (omega (arith, out, count-is))))))
 
         -- The pairs are those of the step's values.
         shown : to ≡ end → (v : List ℕ) → arePairs end v ≡ true → shownOf (pairsOf v) (map readBack ls) ≡ shownOf (pairsOf v) values
@@ -108,10 +108,10 @@ module _ (file rails holds : List ℕ) (place count : ℕ) (lines pairs : List �
             (λ j m. rw (getD-pairs v j (pairAt v 0) (omega (arith, length-pairs v)))
             (pairs-at end v wired j (omega (arith, length-pairs v))))
 
-        pub whole : {ps : List ℕ} → to ≡ end →
-            ps ≡ over (shownOf (pairsOf outputs) (map readBack ls) ++ shownOf (pairsOf lamp) (map readBack ls)) pairs → StepLeaves 0 to ls ps
-        whole h p =
-            leaves
+        pub whole : {q : ℕ} {ps : List ℕ} → q ≡ to → to ≡ end →
+            ps ≡ over (shownOf (pairsOf outputs) (map readBack ls) ++ shownOf (pairsOf lamp) (map readBack ls)) pairs → StepLeaves 0 q ls ps
+        whole e h p =
+            leaves e
             (p ∙ ap₂ (λ (us ws : List ℕ). over (us ++ ws) pairs) (shown h outputs (outputs-wired o)) (shown h lamp (lamp-wired o))
             ∙ sym (ap (λ (b : Bool). cond b (over (shownBy net values) pairs) pairs)
             (eq-eqb (min (place + count) (lineCount net)) (lineCount net) (omega (arith, out, count-is)))))

@@ -13,8 +13,7 @@ pub enum Wiring {
     Unsound,
 }
 
-// Whether two numbers that stand at a place, of two bytes each, are both below a bound. They are read as one number and compared as
-// its halves.
+// Whether two numbers of two bytes each, from a place on, are both below a bound. They are read as the halves of one number.
 fn both_below(bytes: &[u8], at: usize, bound: usize) -> bool
     requires { ⌜ (at + 4 ≤ length (now bytes)) × (bound ≤ 65535) ⌝ }
     ensures { λ r. ⌜ r ≡ (ltb (numberAt (now (bytes .entry)) at) bound && ltb (numberAt (now (bytes .entry)) (at + 2)) bound) ⌝ }
@@ -26,7 +25,10 @@ fn both_below(bytes: &[u8], at: usize, bound: usize) -> bool
     if past <= both {
         return false;
     }
-    both % 65536 * 65536 < past
+    if past <= both % 65536 * 65536 {
+        return false;
+    }
+    true
 }
 
 // Whether every gate's kind is 0 or 1 and its sources are below its own line.

@@ -5,6 +5,7 @@ use native.Mathlib.Omega.{arith}
 use Prim.Native.Nat.{_+_, _-_, _*_, _≤_}
 use mathlib.Core.Path.{_≡_}
 use mathlib.Core.Bool.{true}
+use lib.ListN.{getD}
 use Rattle.fields.specs.Bounded.{all}
 use Rattle.fields.proofs.Bounded.{all-none, all-more, all-not}
 use Rattle.drive.specs.Questions.{isBit}
@@ -36,7 +37,9 @@ returns-2 : tie.Need-returns-2 Inv-loop μ-loop
 returns-2 c =
     let loop = c .before .before .before in
     let a = loop .before .before .args in
-    simp (eq-eqb _ _ (loop .before .if1 .left), all-not (isBit (a .rails .now)) (2 * a .n) (2 * loop .loop .i) (omega arith) (lt-leb _ _ (c .if2 .taken)))
+    let i = 2 * loop .loop .i in
+    let no = lt-leb (getD (a .rails .now) i 0) 1 (omega (arith, c .if2 .taken)) in
+    simp (eq-eqb _ _ (loop .before .if1 .left), all-not (isBit (a .rails .now)) (2 * a .n) i (omega arith) no)
 
 mul-if3 : tie.Need-mul-if3 Inv-loop μ-loop
 mul-if3 c = search needs
@@ -51,7 +54,9 @@ returns-3 : tie.Need-returns-3 Inv-loop μ-loop
 returns-3 c =
     let loop = c .before .before .before .before .before in
     let a = loop .before .before .args in
-    simp (eq-eqb _ _ (loop .before .if1 .left), all-not (isBit (a .rails .now)) (2 * a .n) (2 * loop .loop .i + 1) (omega arith) (lt-leb _ _ (c .if3 .taken)))
+    let i = 2 * loop .loop .i + 1 in
+    let no = lt-leb (getD (a .rails .now) i 0) 1 (omega (arith, c .if3 .taken)) in
+    simp (eq-eqb _ _ (loop .before .if1 .left), all-not (isBit (a .rails .now)) (2 * a .n) i (omega arith) no)
 
 add-i : tie.Need-add-i Inv-loop μ-loop
 add-i c = search needs
@@ -62,9 +67,11 @@ loop-less c = search needs
 loop-again : tie.Need-loop-again Inv-loop μ-loop
 loop-again c =
     let loop = c .before .before .before .before .before in
-    let two : 2 * (loop .loop .i + 1) ≡ 2 * loop .loop .i + 1 + 1 = omega arith in
-    let to-true = all-more _ _ (loop .loop .inv .1) (le-leb _ _ (c .before .before .if2 .left)) in
-    (omega arith, rw two (all-more _ _ to-true (le-leb _ _ (c .if3 .left))))
+    let rails = loop .before .before .args .rails .now in
+    let i = 2 * loop .loop .i in
+    let two : 2 * (loop .loop .i + 1) ≡ i + 1 + 1 = omega arith in
+    let one-more = all-more _ _ (loop .loop .inv .1) (le-leb (getD rails i 0) 1 (omega (arith, c .before .before .if2 .left))) in
+    (omega arith, rw two (all-more _ _ one-more (le-leb (getD rails (i + 1) 0) 1 (omega (arith, c .if3 .left)))))
 
 returns-4 : tie.Need-returns-4 Inv-loop μ-loop
 returns-4 c =

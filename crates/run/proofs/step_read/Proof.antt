@@ -146,8 +146,8 @@ returns-3 c =
     let asked = m .before .before .ask .ensures in
     let yes = m .before .if2 .left in
     let worked = c .before .before .before .work-out .ensures in
-    ⊎-elim (λ w. whole _ _ _ _ _ _ _ o asked yes (m .lesser .ensures) worked (omega (arith, w .0 .taken)) (w .6 ∙ w .3 .ensures))
-    (λ w. part _ _ _ _ _ _ _ o asked yes (m .lesser .ensures) worked (w .0 .left) (w .1)) (c .if3 .came)
+    ⊎-elim (λ w. whole _ _ _ _ _ _ _ o asked yes (m .lesser .ensures) worked (omega (arith, w .0 .taken)) (omega (arith, w .0 .taken)) (w .6 ∙ w .3 .ensures))
+    (λ w. part _ _ _ _ _ _ _ o asked yes (m .lesser .ensures) worked (omega (arith, w .0 .left)) (w .0 .left) (w .1)) (c .if3 .came)
 
 pub step-read-spec : {M : Type 1} → statement M
 step-read-spec =

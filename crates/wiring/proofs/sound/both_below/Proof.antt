@@ -1,23 +1,14 @@
 -- `sound::both_below` meets its contract: four bytes make a number below 2^32, whose halves are the two numbers.
 use borrow.Author.Needs.{needs}
 use borrow.Author.Tests.{lt-ltb, le-ltb}
-use native.Mathlib.Decide.{decLt}
 use native.Mathlib.Omega.{arith}
-use Prim.Native.Nat.{ℕ, _+_, _*_, _/_, _%_, _≤_, _<_}
-use mathlib.Core.Path.{_≡_, sym, _∙_}
+use Prim.Native.Nat.{ℕ, _+_, _*_, _/_, _%_}
+use mathlib.Core.Path.{_≡_}
 use mathlib.Core.List.{List}
-use mathlib.Core.Logic.{by-cases}
-use lib.Dec.{ltb}
 use lib.ListN.{getD}
 use Rattle.netlist.specs.Netlist.{numberAt}
 use Rattle.wiring.proofs.sound.both_below.Statement.{statement}
 use Rattle.wiring.proofs.sound.both_below.Tie as tie
-
--- Two tests that say yes of the same numbers.
-same-test : (a b c d : ℕ) → (a < b → c < d) → (b ≤ a → d ≤ c) → ltb a b ≡ ltb c d
-same-test a b c d f g =
-    by-cases (decLt a b) (λ p. lt-ltb a b p ∙ sym (lt-ltb c d (f p)))
-    (λ p. let q : b ≤ a = omega arith in le-ltb a b q ∙ sym (le-ltb c d (g q)))
 
 add-next : tie.Need-add-next
 add-next c = search needs
@@ -110,15 +101,24 @@ returns c =
     let s = c .before in
     simp (le-ltb (numberAt (bytes s) (at s)) (bound s) (omega (arith, c .if1 .taken, halves s .0)))
 
-mul-result : tie.Need-mul-result
-mul-result c = search needs
+mul-if2 : tie.Need-mul-if2
+mul-if2 c = search needs
 
 returns-2 : tie.Need-returns-2
 returns-2 c =
-    let s = c .before in
-    let second = numberAt (bytes s) (at s + 2) in
-    simp (lt-ltb (numberAt (bytes s) (at s)) (bound s) (omega (arith, c .if1 .left, halves s .0)))
-    (same-test (both s % 65536 * 65536) (bound s * 65536) second (bound s) (λ p. omega (arith, halves s .1)) (λ p. omega (arith, halves s .1)))
+    let s = c .before .before in
+    simp (
+      lt-ltb (numberAt (bytes s) (at s)) (bound s) (omega (arith, c .before .if1 .left, halves s .0)),
+      le-ltb (numberAt (bytes s) (at s + 2)) (bound s) (omega (arith, c .if2 .taken, halves s .1)),
+    )
+
+returns-3 : tie.Need-returns-3
+returns-3 c =
+    let s = c .before .before in
+    simp (
+      lt-ltb (numberAt (bytes s) (at s)) (bound s) (omega (arith, c .before .if1 .left, halves s .0)),
+      lt-ltb (numberAt (bytes s) (at s + 2)) (bound s) (omega (arith, c .if2 .left, halves s .1)),
+    )
 
 pub both-below-spec : {M : Type 1} → statement M
 both-below-spec =
@@ -144,5 +144,6 @@ both-below-spec =
     cast-past
     mul-past
     returns
-    mul-result
-    returns-2)
+    mul-if2
+    returns-2
+    returns-3)
