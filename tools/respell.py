@@ -10,7 +10,7 @@ README.md and docs/. A lemma that would have its function's name gets _lem. Func
 import os
 import re
 
-WORD = re.compile(r"[A-Za-z_][A-Za-z0-9_']*")
+WORD = re.compile(r"(?<![0-9A-Za-z_'])[A-Za-z_][A-Za-z0-9_']*")
 CAMEL = re.compile(r"[a-z][a-z0-9_']*[A-Z][A-Za-z0-9_']*$")
 # Words of the library that older text still spells.
 OLDER = {"getD": "get_or", "flatMap": "flat_map"}

@@ -1,4 +1,5 @@
 // What the services answer C, and the promises about all of them.
+#![tactic(auto)]
 ghost use Rattle.std.specs.Prelude.{◌≡◌};
 ghost use Rattle.answers.specs.Answers.{way_number};
 
@@ -6,7 +7,7 @@ use stuck::Way;
 
 // What probe returns to C; the way is 0 for both low, 1 for both high, 2 for hidden.
 #[repr(C)]
-#[derive(Drop)]
+#[derive(Clone, Copy, Drop)]
 pub struct Probed {
     pub refusal: u32,
     pub input: u32,

@@ -17,7 +17,7 @@ use Rattle.diagram.specs.Diagram.{bit}
 use Rattle.bits.specs.Inner.Bits.{bit_of, bits_of}
 
 abbrev pub ones : ℕ
-ones = 0x_fFFF_FFFF_FFFF_FFFF
+ones = 0xFFFF_FFFF_FFFF_FFFF
 
 pub bit-zero : (k : ℕ) → bit_of k 0 ≡ 0
 bit-zero k = ap (λ (x : ℕ). x % 2) (zero-div (2 ^ k))

@@ -15,12 +15,12 @@ use Rattle.bits.proofs.Bits.{bit-digit}
 
 abbrev pub patterns : List ℕ
 patterns =
-    0x_aAAA_AAAA_AAAA_AAAA
-    ∷ 0x_cCCC_CCCC_CCCC_CCCC
-    ∷ 0x_f0_f0_F0_f0_F0_f0_F0_f0
-    ∷ 0x_fF00_FF00_FF00_FF00
-    ∷ 0x_fFFF_0000_FFFF_0000
-    ∷ 0x_fFFF_FFFF_0000_0000
+    0xAAAA_AAAA_AAAA_AAAA
+    ∷ 0xCCCC_CCCC_CCCC_CCCC
+    ∷ 0xF0F0_F0F0_F0F0_F0F0
+    ∷ 0xFF00_FF00_FF00_FF00
+    ∷ 0xFFFF_0000_FFFF_0000
+    ∷ 0xFFFF_FFFF_0000_0000
     ∷ []
 
 bit-pattern : (c k : ℕ) → c < 6 → k < 64 → bit_of k (get_or patterns c 0) ≡ k / 2 ^ c % 2

@@ -3,16 +3,16 @@ ghost use Rattle.std.specs.Prelude.{◌≡◌, ℕ, ◌+◌, ◌%◌, ◌≤◌,
 ghost use Rattle.diagram.specs.Diagram.{bit, input_of};
 ghost use Rattle.bits.specs.Inner.Bits.{bit_of};
 
-pub const ONES: u64 = 0x_fFFF_FFFF_FFFF_FFFF;
+pub const ONES: u64 = 0xFFFF_FFFF_FFFF_FFFF;
 
 // The true rails' batches of contacts 0 to 5, at every base that is a multiple of 64.
 const PATTERNS: [u64; 6] = [
-    0x_aAAA_AAAA_AAAA_AAAA,
-    0x_cCCC_CCCC_CCCC_CCCC,
-    0x_f0_f0_F0_f0_F0_f0_F0_f0,
-    0x_fF00_FF00_FF00_FF00,
-    0x_fFFF_0000_FFFF_0000,
-    0x_fFFF_FFFF_0000_0000,
+    0xAAAA_AAAA_AAAA_AAAA,
+    0xCCCC_CCCC_CCCC_CCCC,
+    0xF0F0_F0F0_F0F0_F0F0,
+    0xFF00_FF00_FF00_FF00,
+    0xFFFF_0000_FFFF_0000,
+    0xFFFF_FFFF_0000_0000,
 ];
 
 // A value at all 64 inputs.

@@ -1,4 +1,5 @@
 // Shows the cases that stand on standard input, one on each line: what a service makes of each.
+#![tactic(auto)]
 mod cases;
 mod probes;
 

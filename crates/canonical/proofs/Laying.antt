@@ -14,7 +14,7 @@ use Rattle.fields.specs.Bounded.{all, listed}
 use Rattle.fields.specs.Fields.{Item, field_bytes, encoded}
 use Rattle.fields.proofs.Bounded.{all_none, all_more, all-at, all-not}
 use Rattle.fields.proofs.Listed.{length-listed, listed_more}
-use Rattle.files.proofs.Written.{onward}
+use Rattle.files.proofs.WrittenLemmas.{onward}
 use Rattle.table.specs.Encode.{level_item, bytes_of}
 use Rattle.functions.specs.Functions.{Function, level_of, firsts, number_in, canonical, is_narrow}
 use Rattle.canonical.specs.declared.layout.Laid.TheVariants.{Whole, Wide}

@@ -10,7 +10,7 @@ use lib.ListN.{length, get_or, take, set, length-set, length-append}
 use lib.Seq.{sets, take-suc-set, get_or-set_same, get_or-set_other}
 use Rattle.fields.specs.Bounded.{listed}
 use Rattle.fields.proofs.Listed.{length-listed, listed_more}
-use Rattle.files.proofs.Written.{onward}
+use Rattle.files.proofs.WrittenLemmas.{onward}
 use Rattle.functions.specs.Functions.{Function, firsts, number_in, place}
 use Rattle.functions.proofs.Places.{place-most}
 use Rattle.functions.proofs.Firsts.{firsts-none, firsts-old, firsts-new, length_more, place-entered}

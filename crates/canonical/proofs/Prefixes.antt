@@ -8,7 +8,7 @@ use lib.Seq.{sets}
 use Rattle.fields.specs.Bounded.{listed}
 use Rattle.fields.specs.Fields.{field_bytes}
 use Rattle.fields.proofs.Listed.{length-listed, listed_same}
-use Rattle.files.proofs.Written.{onward}
+use Rattle.files.proofs.WrittenLemmas.{onward}
 use Rattle.functions.specs.Functions.{Function, half_at, number_in, firsts, level_of}
 use Rattle.canonical.specs.Inner.Blocks.{mention_at, level_at, blocks_at, next_of, level_bytes, head_bytes, Blocks, Put, Numbered}
 use Rattle.canonical.proofs.Searching.{length-blocks}

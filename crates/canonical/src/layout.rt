@@ -10,7 +10,7 @@ use crate::levels;
 use files::{Room, Written};
 
 // Question 17's answer: the length of the table's file, or that a level has more than eight functions.
-#[derive(Drop)]
+#[derive(Clone, Copy, Drop)]
 pub enum Laid {
     Whole(usize),
     Wide,

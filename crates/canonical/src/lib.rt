@@ -1,4 +1,5 @@
 // From truth tables to the table file of their functions: questions 17 and 9.
+#![tactic(auto)]
 mod blocks;
 mod layout;
 mod levels;

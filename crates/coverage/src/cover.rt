@@ -9,14 +9,14 @@ ghost use Rattle.coverage.specs.Inner.Gathering.{Marked, PutIf, AddedIf, Lies, G
 use cubes::Cube;
 
 // Question 19's answer.
-#[derive(Drop)]
+#[derive(Clone, Copy, Drop)]
 pub enum Shares {
     Apart,
     Shared,
 }
 
 // Question 20's answer.
-#[derive(Drop)]
+#[derive(Clone, Copy, Drop)]
 pub enum Gaps {
     Covered,
     Open,

@@ -1,4 +1,5 @@
 // The inputs that fit a rule, as a cube: a word of 64 for the last six contacts, the others by a mask and a value of the word's number.
+#![tactic(auto)]
 ghost use Rattle.std.specs.Prelude.{◌≡◌, Bool, ◌&&◌, ℕ, ◌+◌, ◌*◌, ◌-◌, ◌≤◌, ◌<◌, length};
 ghost use Rattle.diagram.specs.Diagram.{bit};
 ghost use Rattle.bits.specs.Inner.Bits.{bit_of};
@@ -6,7 +7,7 @@ ghost use Rattle.rulesheet.specs.Rules.{accepts};
 ghost use Rattle.cubes.specs.Inner.Cubes.{Low, mask_digit, value_digit, High, CubeOf};
 
 // The inputs at the bits of `pattern`, in each word whose number has `value` where `mask` is set.
-#[derive(Drop)]
+#[derive(Clone, Copy, Drop)]
 pub struct Cube {
     pub mask: usize,
     pub value: usize,
@@ -14,7 +15,7 @@ pub struct Cube {
 }
 
 // A mask and a value.
-#[derive(Drop)]
+#[derive(Clone, Copy, Drop)]
 struct Words {
     mask: usize,
     value: usize,

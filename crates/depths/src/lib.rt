@@ -1,4 +1,5 @@
 // The depth of a netlist.
+#![tactic(auto)]
 mod depth;
 
 pub use depth::depth_of;

@@ -6,14 +6,14 @@ ghost use Rattle.diagram.specs.Questions.{range_of, numbering_of};
 ghost use Rattle.diagram.specs.Inner.Lent.{Fit, WithArrays};
 
 // Question 5's answer.
-#[derive(Drop)]
+#[derive(Clone, Copy, Drop)]
 pub enum Range {
     Within,
     Outside,
 }
 
 // Question 7's answer.
-#[derive(Drop)]
+#[derive(Clone, Copy, Drop)]
 pub enum Numbering {
     InTurn,
     OutOfTurn,

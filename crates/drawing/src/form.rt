@@ -8,7 +8,7 @@ ghost use Rattle.drawing.specs.Drawing.{node_count, is_number, is_above, is_node
 use files::{Contacts, Row};
 
 // Question 16's answer: the count of contacts.
-#[derive(Drop)]
+#[derive(Clone, Copy, Drop)]
 pub enum Form {
     Formed(usize),
     Unformed,

@@ -10,13 +10,12 @@ use Rattle.drive.specs.declared.Holds.TheVariants.{Ordered, Disordered}
 use Rattle.drive.specs.declared.Place.{Place}
 use Rattle.drive.specs.declared.Place.TheVariants.{Within, Outside}
 
--- Whether a byte is a value: low (0), high (1) or not yet (2), in the field an unknown value.
-abbrev pub is_value : List ℕ → ℕ → Bool
-is_value bytes i = leb (get_or bytes i 0) 2
+abbrev pub is_bit : List ℕ → ℕ → Bool
+is_bit bytes i = leb (get_or bytes i 0) 1
 
--- 13. Are there 2n rail bytes, in line order, each 0, 1 or 2 (not yet)? No: 13.
+-- 13. Are there 2n rail bytes, in line order, each 0 or 1? No: 13.
 abbrev pub rails_of : ℕ → List ℕ → Rails
-rails_of n rails = cond (eqb (length rails) (2 * n) && all (2 * n) (is_value rails)) Driven Undriven
+rails_of n rails = cond (eqb (length rails) (2 * n) && all (2 * n) (is_bit rails)) Driven Undriven
 
 abbrev pub rails_number : Rails → ℕ
 rails_number Driven = 0

@@ -1,25 +1,26 @@
 // Questions 13, 14 and 21, about what a netlist is run with and from where.
+#![tactic(auto)]
 ghost use Rattle.std.specs.Prelude.{◌≡◌, ◌≤◌};
 ghost use Rattle.drive.specs.Questions.{rails_of, rank_of, is_hold, order_of, place_of};
 
 use netlist::Hold;
 
 // Question 13's answer.
-#[derive(Drop)]
+#[derive(Clone, Copy, Drop)]
 pub enum Rails {
     Driven,
     Undriven,
 }
 
 // Question 14's answer.
-#[derive(Drop)]
+#[derive(Clone, Copy, Drop)]
 pub enum Holds {
     Ordered,
     Disordered,
 }
 
 // Question 21's answer.
-#[derive(Drop)]
+#[derive(Clone, Copy, Drop)]
 pub enum Place {
     Within,
     Outside,

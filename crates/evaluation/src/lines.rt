@@ -9,7 +9,7 @@ use crate::ranks;
 use crate::ranks::Next;
 
 // The next hold of a line, and the next of a pin.
-#[derive(Drop)]
+#[derive(Clone, Copy, Drop)]
 struct Cursor {
     line: Next,
     pin: Next,

@@ -3,14 +3,14 @@ ghost use Rattle.std.specs.Prelude.{◌≡◌, ◌/◌, ◌<◌};
 ghost use Rattle.evaluation.specs.Inner.Walk.{IsNext, Sorted, Awaits, Looks};
 
 // The next hold: its place in the list and its rank, which is past every rank where the list has ended.
-#[derive(Drop)]
+#[derive(Clone, Copy, Drop)]
 pub struct Next {
     pub at: usize,
     pub rank: usize,
 }
 
 // What a site has, and the hold after it.
-#[derive(Drop)]
+#[derive(Clone, Copy, Drop)]
 pub struct Looked {
     pub value: u8,
     pub next: Next,

@@ -2,18 +2,14 @@
 use Prim.Native.Nat.{ℕ, zero, suc, ◌-◌, ◌≤◌, ◌<◌}
 use native.Mathlib.Omega.{arith}
 use mathlib.Core.Path.{◌≡◌, refl, sym, ap, ◌∙◌}
-use mathlib.Core.Logic.{⊎_elim}
 use mathlib.Core.Bool.{Bool, true, false, cond}
 use mathlib.Core.List.{List, [], ◌∷◌}
 use borrow.Author.Tests.{le-leb, lt-leb}
-use denote.Enum.Declared.{tag_of}
-use types.Run.{OneOf}
 use lib.ListN.{length}
 use Rattle.fields.specs.declared.Field.{Field}
 use Rattle.fields.specs.declared.Cursor.{Cursor}
 use Rattle.fields.specs.declared.Step.{Step}
 use Rattle.fields.specs.declared.Step.TheVariants.{Next, End, Cut}
-use Rattle.fields.specs.contracts.Step.{the_type}
 use Rattle.fields.specs.Fields.{raw_step_at, item_of, before, Fields, fields_after, raw_fields_from, is_note, but_notes, fields_from, fields_of}
 use Rattle.fields.specs.Inner.Walk.{past_notes, step_within, step_at}
 use Rattle.fields.proofs.Raw.{Stands, raw-stands, unrolled, raw-walk}
@@ -54,8 +50,9 @@ module _ (file : List ℕ) (at : ℕ) where
     no_note h = step-next (lt-leb _ _ h)
 
 -- A step that finds no field, be it a note, is the one that stands there: one that is none of `Next`, the first variant.
-pub step-none : (file : List ℕ) (at : ℕ) (s : Step) → raw_step_at file at ≡ s → OneOf (1 ∷ 2 ∷ []) (tag_of the_type s) → step_at file at ≡ s
-step-none file at (Next f c) e o = absurd (⊎_elim (λ z. omega arith) (λ z. omega arith) o)
+pub step-none : (file : List ℕ) (at : ℕ) (s : Step) → raw_step_at file at ≡ s → ((f : Field) (c : Cursor) → s ≡ Next f c → ⊥) →
+    step_at file at ≡ s
+step-none file at (Next f c) e o = absurd (o f c refl)
 step-none file at End e o = step_past file at e
 step-none file at Cut e o = step_past file at e
 
@@ -120,8 +117,8 @@ pub items-next : (file : List ℕ) (at : ℕ) {f : Field} {c : Cursor} → step_
 items-next file at e = ap (λ (fs : Fields). fs.items) (walk file at e)
 
 -- The fields end where the step is none of `Next`, the first variant.
-pub ended : (file : List ℕ) (at : ℕ) (s : Step) → step_at file at ≡ s → OneOf (1 ∷ 2 ∷ []) (tag_of the_type s) →
+pub ended : (file : List ℕ) (at : ℕ) (s : Step) → step_at file at ≡ s → ((f : Field) (c : Cursor) → s ≡ Next f c → ⊥) →
     (fields_from file at).items ≡ []
-ended file at (Next f c) e o = absurd (⊎_elim (λ z. omega arith) (λ z. omega arith) o)
+ended file at (Next f c) e o = absurd (o f c refl)
 ended file at End e o = ap (λ (fs : Fields). fs.items) (walk file at e)
 ended file at Cut e o = ap (λ (fs : Fields). fs.items) (walk file at e)

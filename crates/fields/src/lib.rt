@@ -1,11 +1,13 @@
 // Files as rows of fields: one tag byte, two length bytes (high byte first), the value. Fields with tags of 128 to 255 are notes; the
 // cursor passes over them.
+#![tactic(auto)]
+
 ghost use Rattle.std.specs.Prelude.{◌≡◌, get_or, drop};
 ghost use Rattle.fields.specs.Fields.{raw_step_at, value_of, fields_of, number_of};
 ghost use Rattle.fields.specs.Inner.Walk.{step_at, items_from};
 
 // One field of a file: its tag, and the place and the length of its value.
-#[derive(Drop)]
+#[derive(Clone, Copy, Drop)]
 pub struct Field {
     pub tag: u8,
     pub start: usize,
@@ -13,13 +15,13 @@ pub struct Field {
 }
 
 // How far a file has been read.
-#[derive(Drop)]
+#[derive(Clone, Copy, Drop)]
 pub struct Cursor {
     pub at: usize,
 }
 
 // What stands at a cursor.
-#[derive(Drop)]
+#[derive(Clone, Copy, Drop)]
 pub enum Step {
     // A whole field, and the cursor moved past it.
     Next(Field, Cursor),
@@ -30,7 +32,7 @@ pub enum Step {
 }
 
 // Whether a file splits into whole fields with nothing left over.
-#[derive(Drop)]
+#[derive(Clone, Copy, Drop)]
 pub enum Framing {
     Whole,
     Broken,

@@ -1,5 +1,5 @@
 pub mod Counts
-pub mod Written
+pub mod WrittenLemmas
 pub mod Buffers
 pub mod WholeParts
 pub mod Heads

@@ -3,19 +3,15 @@ use Prim.Native.Nat.{ℕ, ◌+◌, ◌-◌}
 use native.Mathlib.Omega.{arith}
 use mathlib.Core.Path.{◌≡◌, refl, sym, ap, ◌∙◌}
 use mathlib.Core.Bool.{Bool, true, false, not, ◌&&◌, and-false}
-use mathlib.Core.Logic.{⊎_elim}
 use mathlib.Core.List.{List, [], ◌∷◌}
 use borrow.Author.Tests.{leb-true, leb-false, le-leb, lt-leb}
 use lib.Dec.{leb, eqb}
-use denote.Enum.Declared.{tag_of}
-use types.Run.{OneOf}
 use lib.ListN.{length, drop, length-drop}
 use lib.Seq.{drop-drop}
 use Rattle.fields.specs.declared.Field.{Field}
 use Rattle.fields.specs.declared.Cursor.{Cursor}
 use Rattle.fields.specs.declared.Step.{Step}
 use Rattle.fields.specs.declared.Step.TheVariants.{Next, End, Cut}
-use Rattle.fields.specs.contracts.Step.{the_type}
 use Rattle.fields.specs.Refusals.{framing_number}
 use Rattle.fields.specs.Fields.{Item, Fields, item_of, item_in, value_of, fields_from, fields_of}
 use Rattle.fields.specs.Inner.Walk.{step_at}
@@ -47,13 +43,13 @@ module _ (file : List ℕ) (at : ℕ) where
   pub ends-here : step_at file at ≡ End → true ≡ ends_within 0 (fields_from file at)
   ends-here e = sym (ap (ends_within 0) (walk file at e))
 
-  pub goes_on : (s : Step) → step_at file at ≡ s → OneOf (0 ∷ 2 ∷ []) (tag_of the_type s) → false ≡ ends_within 0 (fields_from file at)
+  pub goes_on : (s : Step) → step_at file at ≡ s → (s ≡ End → ⊥) → false ≡ ends_within 0 (fields_from file at)
   goes_on (Next f c) e o =
       let is = (fields_from file at).items in
       let whole = eqb (framing_number (fields_from file at).framing) 0 in
       let more = lt-leb (length is) 0 (omega (arith, ap (λ (is : List Item). length is) (items-next file at e))) in
       sym (ap (◌&&◌ whole) more ∙ and-false whole)
-  goes_on End e o = absurd (⊎_elim (λ z. omega arith) (λ z. omega arith) o)
+  goes_on End e o = absurd (o refl)
   goes_on Cut e o = sym (ap (ends_within 0) (walk file at e))
 
 -- A field past the first k of some fields.

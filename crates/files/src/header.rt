@@ -6,7 +6,7 @@ ghost use Rattle.files.specs.Header.{contacts_in};
 use fields::{Field, value};
 
 // Question 2's answer: the count of contacts.
-#[derive(Drop)]
+#[derive(Clone, Copy, Drop)]
 pub enum Contacts {
     Counted(usize),
     Uncounted,

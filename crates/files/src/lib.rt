@@ -1,5 +1,7 @@
 // What files share: their fields one after the other, the first of them (question 2), fields of whole parts, fields written, and
 // question 9.
+#![tactic(auto)]
+
 mod header;
 mod parts;
 mod room;

@@ -3,7 +3,7 @@ ghost use Rattle.std.specs.Prelude.{◌≡◌};
 ghost use Rattle.files.specs.Room.{room_of};
 
 // Question 9's answer.
-#[derive(Drop)]
+#[derive(Clone, Copy, Drop)]
 pub enum Room {
     Enough,
     Short,
@@ -22,7 +22,7 @@ pub fn ask_room(wanted: usize, lent: usize) -> Room
 
 // What a service that writes to one lent buffer returns: how many bytes it wrote, or the refusal.
 #[repr(C)]
-#[derive(Drop)]
+#[derive(Clone, Copy, Drop)]
 pub struct Written {
     pub refusal: u32,
     pub length: u32,

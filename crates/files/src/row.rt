@@ -6,7 +6,7 @@ ghost use Rattle.files.specs.Inner.Row.{Takes, ends_within, Opens};
 use fields::{Cursor, Field, Step};
 
 // A field that a walk finds, and the place past it. Where there is none: an empty field of tag 0, and the place as it was.
-#[derive(Drop)]
+#[derive(Clone, Copy, Drop)]
 pub struct Taken {
     pub found: bool,
     pub field: Field,
@@ -15,7 +15,7 @@ pub struct Taken {
 
 // The first four fields of a file, empty ones of tag 0 where there are not so many; whether there is a fourth; whether the file is
 // whole and has no more.
-#[derive(Drop)]
+#[derive(Clone, Copy, Drop)]
 pub struct Row {
     pub first: Field,
     pub second: Field,

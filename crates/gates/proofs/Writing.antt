@@ -8,7 +8,7 @@ use mathlib.Core.List.{List, [], ◌∷◌, ◌++◌, flat_map}
 use lib.ListN.{length, length-append, set}
 use lib.Seq.{sets}
 use Rattle.fields.proofs.Parts.{flat_append}
-use Rattle.files.proofs.Written.{sets_more}
+use Rattle.files.proofs.WrittenLemmas.{sets_more}
 use Rattle.netlist.specs.Netlist.{gate_bytes}
 use Rattle.netlist.proofs.Files.{length-gate-bytes}
 use Rattle.rules.specs.Make.{Make, return, ◌>>=◌, gate, sequence}

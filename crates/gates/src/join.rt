@@ -8,7 +8,7 @@ use crate::gate;
 use rules::Entry;
 
 // What a step of the synthesis leaves: an entry, and the number of gates made so far.
-#[derive(Drop)]
+#[derive(Clone, Copy, Drop)]
 pub struct Joined {
     pub entry: Entry,
     pub made: usize,

@@ -1,2 +1,3 @@
 // What a case shows of what check says and of the netlist that a build writes.
+#![tactic(auto)]
 pub mod netlists;

@@ -8,7 +8,7 @@ use lib.Seq.{sets}
 use Rattle.fields.specs.Fields.{field_bytes, encoded}
 use Rattle.files.specs.Room.{over}
 use Rattle.files.proofs.Buffers.{sets_over}
-use Rattle.files.proofs.Written.{sets_more}
+use Rattle.files.proofs.WrittenLemmas.{sets_more}
 use Rattle.netlist.specs.Netlist.{Netlist, gate_bytes, pair_bytes, lamp_field, file_with, file_of}
 use Rattle.netlist.specs.Inner.Lengths.{lamp_length}
 

@@ -1,1 +1,2 @@
 // Which stuck pins of boards are hidden: specs/ and proofs/.
+#![tactic(auto)]

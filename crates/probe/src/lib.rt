@@ -1,4 +1,5 @@
 // The service probe: the smallest input that betrays a stuck line or pin.
+#![tactic(auto)]
 mod service;
 
 pub use service::probe;

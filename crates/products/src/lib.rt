@@ -1,4 +1,5 @@
 // Products of matrices of entries, and the gates that they make.
+#![tactic(auto)]
 mod cell;
 mod product;
 

@@ -13,14 +13,14 @@ use gates::Joined;
 use rules::Entry;
 
 // How many lines are among the terms, and the number of gates made so far.
-#[derive(Drop)]
+#[derive(Clone, Copy, Drop)]
 struct TermLines {
     count: usize,
     made: usize,
 }
 
 // How many middle nodes of a row are listed, and whether some factor in the row is always.
-#[derive(Drop)]
+#[derive(Clone, Copy, Drop)]
 struct Factors {
     listed: usize,
     some: bool,

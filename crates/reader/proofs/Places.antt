@@ -1,16 +1,13 @@
 -- The value that a step found, and of a step that found none.
 use Prim.Native.Nat.{ℕ}
-use native.Mathlib.Omega.{arith}
 use mathlib.Core.Path.{◌≡◌, refl, sym, ap, ◌∙◌}
-use mathlib.Core.Logic.{⊎_elim}
 use mathlib.Core.List.{List, [], ◌∷◌}
-use denote.Enum.Declared.{tag_of}
-use types.Run.{OneOf}
+use Rattle.fields.specs.declared.Field.{Field}
+use Rattle.fields.specs.declared.Cursor.{Cursor}
 use Rattle.fields.specs.declared.Step.{Step}
 use Rattle.fields.specs.declared.Step.TheVariants.{Next, End, Cut}
 use Rattle.fields.specs.Fields.{Fields, fields_after, fields_from, value_in}
 use Rattle.fields.specs.Inner.Walk.{step_at}
-use Rattle.fields.specs.contracts.Step.{the_type}
 use Rattle.fields.proofs.Steps.{walk}
 use Rattle.reader.specs.Inner.Found.{found_in}
 
@@ -24,7 +21,7 @@ pub found-at : (file : List ℕ) (at : ℕ) → found_in file (step_at file at) 
 found-at file at = first_of file (step_at file at) ∙ sym (ap (λ (fs : Fields). value_in fs.items 0) (walk file at refl))
 
 -- A step that found no field has no value.
-pub none_found : (file : List ℕ) (s : Step) → OneOf (1 ∷ 2 ∷ []) (tag_of the_type s) → [] ≡ found_in file s
-none_found file (Next f c) o = absurd (⊎_elim (λ z. omega arith) (λ z. omega arith) o)
+pub none_found : (file : List ℕ) (s : Step) → ((f : Field) (c : Cursor) → s ≡ Next f c → ⊥) → [] ≡ found_in file s
+none_found file (Next f c) o = absurd (o f c refl)
 none_found file End o = refl
 none_found file Cut o = refl

@@ -1,4 +1,6 @@
 // The reader remembers the file and how far it has read. Its functions take it apart and leave the work to covered ones.
+#![tactic(auto)]
+
 mod place;
 
 ghost use Rattle.std.specs.Prelude.{◌≡◌, drop};
@@ -19,7 +21,7 @@ fn found(file: &[u8], step: Step) -> &[u8]
 }
 
 // A file, and how far it has been read.
-#[derive(Drop)]
+#[derive(Clone, Copy, Drop)]
 pub struct Reader<'a> {
     pub src: &'a [u8],
     pub at: usize,

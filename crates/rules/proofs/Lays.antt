@@ -100,13 +100,13 @@ module _ {S : ℕ → Type 0} {δ : ℕ → ℕ} {most : ℕ} {A : Type 0} (L : 
   unfolding tree
   lays-tree one none p fits = absurd (omega arith)
   lays-tree one (more s all) p fits = lays-return (stays _ _ _ _ _ (omega arith) (omega arith) s)
-  lays-tree {e} (two a b) {xs} all p fits =
+  lays-tree {e = e} {next = next} (two a b) {xs = xs} all p fits =
       let h = max (height a) (height b) in
       let ha : height a * k ≤ h * k = mul-le-mul_right k (omega arith) in
       let hb : height b * k ≤ h * k = mul-le-mul_right k (omega arith) in
       lays-bind (lays-tree a (every_take (size a) all) (omega (arith, length-take (size a) xs)) (omega arith)) (λ mid x l lx.
       lays-bind
-      (lays-tree b (every_map (λ z. stays e e _ mid z (omega arith) l) (every_drop (size a) all))
+      (lays-tree {next = mid} b (every_map (λ z. stays e e _ mid z (omega arith) l) (every_drop (size a) all))
       (omega (arith, length-drop (size a) xs)) (omega arith)) (λ end y l' ly.
       lays-weaken
       (joins (e + h * k) end x y (stays _ _ _ _ x (omega arith) l' lx) (stays _ _ _ _ y (omega arith) (omega arith) ly)

@@ -10,7 +10,7 @@ use fields::Field;
 use files::Contacts;
 
 // Question 18's answer: the counts of contacts, outputs and rules.
-#[derive(Drop)]
+#[derive(Clone, Copy, Drop)]
 pub enum Form {
     Formed(usize, usize, usize),
     Unformed,

@@ -8,7 +8,7 @@ use lib.ListN.{length, get_or, set}
 use lib.Seq.{sets}
 use Rattle.fields.specs.Bounded.{listed}
 use Rattle.fields.proofs.Listed.{length-listed, listed_more}
-use Rattle.files.proofs.Written.{onward}
+use Rattle.files.proofs.WrittenLemmas.{onward}
 use Rattle.netlist.specs.declared.Pair.{Pair}
 use Rattle.netlist.specs.Netlist.{pair_at, pairs_of}
 use Rattle.simulation.specs.Run.{shown_of}

@@ -1,4 +1,5 @@
 // The services step and run: a netlist with lines and pins held.
+#![tactic(auto)]
 ghost use Rattle.std.specs.Prelude.{◌≡◌, true, ◌++◌, map, ◌+◌, ◌*◌, ◌/◌, ◌≤◌, length};
 ghost use Rattle.std.proofs.lemmas.List.Edits.{sets};
 ghost use Rattle.files.specs.Room.{over};
@@ -15,7 +16,7 @@ use wiring::Parts;
 
 // What a step returns: its refusal, or 0, and its place out.
 #[repr(C)]
-#[derive(Drop)]
+#[derive(Clone, Copy, Drop)]
 pub struct Stepped {
     pub refusal: u32,
     pub place: u32,

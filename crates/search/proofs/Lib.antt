@@ -1,6 +1,6 @@
 pub mod Halves
 pub mod Within
-pub mod Found
+pub mod FoundLemmas
 pub mod Sites
 pub mod Lines
 pub mod Sources

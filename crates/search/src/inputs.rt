@@ -11,7 +11,7 @@ ghost use Rattle.search.specs.Inner.Found.{found_in};
 use crate::passes;
 
 // The smallest code input that betrays a held line or pin, or none.
-#[derive(Drop)]
+#[derive(Clone, Copy, Drop)]
 pub enum Found {
     At(u32),
     Nowhere,

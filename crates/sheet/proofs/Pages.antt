@@ -12,7 +12,7 @@ use lib.Seq.{sets}
 use Rattle.fields.specs.Bounded.{listed}
 use Rattle.fields.proofs.Listed.{length-listed, listed_more}
 use Rattle.files.specs.Room.{over}
-use Rattle.files.proofs.Written.{onward}
+use Rattle.files.proofs.WrittenLemmas.{onward}
 use Rattle.files.proofs.Buffers.{sets_over}
 use Rattle.netlist.specs.declared.Gate.{Gate}
 use Rattle.netlist.specs.Netlist.{Netlist, gate_line}

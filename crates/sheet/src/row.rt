@@ -5,7 +5,7 @@ ghost use Rattle.sheet.specs.Sheet.{in_five, kind_of, row_text};
 ghost use Rattle.sheet.specs.Inner.Places.{sign_at, kind_column};
 
 // What a row is about: a gate, AND or OR, an output, or the lamp.
-#[derive(Drop)]
+#[derive(Clone, Copy, Drop)]
 pub enum Kind {
     And,
     Or,
@@ -14,7 +14,7 @@ pub enum Kind {
 }
 
 // A row: a gate's line and sources, or an output's or a lamp's number and its true and false line.
-#[derive(Drop)]
+#[derive(Clone, Copy, Drop)]
 pub struct Row {
     pub number: u16,
     pub kind: Kind,

@@ -1,22 +1,14 @@
 -- The gate on three values works out what each line is for every way in which late values could arrive: the two extreme arrivals, all
 -- late values at 0 and all at 1, decide it.
 use native.Mathlib.Omega.{arith}
-use Prim.Native.Nat.{ℕ, zero, suc, ◌+◌, ◌-◌, min, max, ◌≤◌, ◌<◌}
+use Prim.Native.Nat.{ℕ, zero, suc, ◌≤◌}
 use mathlib.Core.Path.{◌≡◌, refl, sym, ap, ap₂, ◌∙◌}
-use mathlib.Core.Bool.{Bool, true, false, ◌&&◌, cond, and-false}
-use mathlib.Core.List.{List, [], ◌∷◌, map}
-use borrow.Author.Tests.{eq-eqb, ne_eqb, eqb-true, eqb-false}
+use mathlib.Core.Bool.{Bool, true, false, ◌&&◌, and-false}
+use mathlib.Core.List.{List, [], ◌∷◌}
+use borrow.Author.Tests.{eqb-true, eqb-false}
 use lib.Dec.{eqb}
-use lib.ListN.{length, get_or, take, drop}
-use Rattle.fields.proofs.Listed.{listed-is}
-use Rattle.netlist.specs.declared.Gate.{Gate}
-use Rattle.netlist.specs.declared.Hold.{Hold}
-use Rattle.netlist.specs.Netlist.{site_of, level_of}
-use Rattle.simulation.specs.Run.{Driver, gate_of, held, holding, drivers_of, work_out}
-use Rattle.simulation.specs.Late.{every_arrival, settled_lines}
-use Rattle.simulation.specs.Inner.Gates.{is_below, late_gate, late_holding}
-use Rattle.simulation.proofs.Monotone.{AllHeld, gate-mono}
-use Rattle.simulation.proofs.Related.{Pairwise, none, more, each_at, each_take, each-drop, each-driver, run-each}
+use Rattle.simulation.specs.Late.{every_arrival}
+use Rattle.simulation.proofs.Related.{Pairwise, none, more}
 
 -- What a value can arrive as: one that is not yet as 0 or 1, any other as itself.
 abbrev pub Arrives : ℕ → ℕ → Type 0

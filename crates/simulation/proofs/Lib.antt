@@ -10,3 +10,4 @@ pub mod Writes
 pub mod Worked
 pub mod Stepped
 pub mod Whole
+pub mod Late

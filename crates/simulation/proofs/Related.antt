@@ -52,5 +52,6 @@ module _ {A B : Type 0} (r : Rule A) (s : Rule B) (R : A → B → Type 0) (on_n
       Pairwise R (work_out r ds vs) (work_out s es ws)
   unfolding work_out
   run-each none vs = vs
-  run-each {vs = xs} {ws = ys} (more d ds) vs =
-      run-each ds (each_append vs (more (rw (← each-length vs) (on-shows (length xs) _ _ (drive-each vs d))) none))
+  run-each {vs = xs} {ws = ys} (more {a = a} {b = b} {xs = xs'} {ys = ys'} d ds) vs =
+      run-each {vs = xs ++ r.shows (length xs) (drive r xs a) ∷ []} ds
+      (each_append vs (more (rw (← each-length vs) (on-shows (length xs) _ _ (drive-each vs d))) none))

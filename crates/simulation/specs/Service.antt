@@ -1,13 +1,11 @@
 -- The services step and run: what they return and write.
-use Rattle.std.specs.Prelude.{ℕ, zero, suc, ◌+◌, ◌*◌, ◌-◌, min, cond, List, [], ◌∷◌, ◌++◌, map, leb, eqb, length, take, drop}
+use Rattle.std.specs.Prelude.{ℕ, zero, suc, ◌+◌, ◌*◌, ◌-◌, min, cond, List, [], ◌∷◌, ◌++◌, map, eqb, length, take, drop}
 use Rattle.fields.specs.Refusals.{first_no}
-use Rattle.netlist.specs.declared.Hold.{Hold}
 use Rattle.files.specs.Room.{room_of, room_number, over}
 use Rattle.netlist.specs.Netlist.{Netlist, holds_of, gate_line, line_count}
 use Rattle.wiring.specs.Questions.{netlist_in, netlist_refusal}
 use Rattle.drive.specs.Questions.{rails_of, rails_number, order_of, holds_number, place_of, place_number}
 use Rattle.simulation.specs.Run.{holding, drivers_of, work_out, shown_by}
-use Rattle.simulation.specs.Late.{every_arrival, settled_lines}
 
 -- What a step returns, and what it leaves in the two lent buffers.
 pub record Stepping : Type 0 where
@@ -29,28 +27,19 @@ step_refusal file rails holds place lines pairs =
     ∷ room_number (room_of (2 * (length net.pairs + length net.lamp)) pairs)
     ∷ [])
 
--- How the byte of an earlier line is read: 2 as not yet, one that is none of 0, 1 and 2 as 1.
+-- How the byte of an earlier line is read: one that is neither 0 nor 1 as 1.
 abbrev pub read_back : ℕ → ℕ
-read_back byte = cond (leb byte 2) byte 1
+read_back byte = cond (eqb byte 0) 0 1
 
 -- The lines before a place, as a buffer has them once the constants' two bytes are set.
 abbrev pub lines_before : ℕ → List ℕ → List ℕ
 lines_before place lines = take place (over (0 ∷ 1 ∷ []) lines)
 
--- Every line's value up to where a step ends, once rails and earlier lines have arrived: the earlier lines, then as many from the
--- place on as the step is told, or all that are left if these are fewer.
-abbrev pub arrived_values : Netlist → List ℕ → List Hold → ℕ → ℕ → List ℕ → List ℕ
-arrived_values net rails holds place count before =
-    work_out (holding holds) (take count (drop (place - 2) (drivers_of rails net.gates))) before
-
--- The same at rails and earlier lines of which some may be late.
-unfoldable pub stepped_values : Netlist → List ℕ → List ℕ → ℕ → ℕ → List ℕ → List ℕ
+-- Every line's value up to where a step ends: the earlier lines as they are read, then as many from the place on as the step is told,
+-- or all that are left if these are fewer.
+abbrev pub stepped_values : Netlist → List ℕ → List ℕ → ℕ → ℕ → List ℕ → List ℕ
 stepped_values net rails holds place count lines =
-    settled_lines
-    (λ passes.
-    every_arrival (map read_back (lines_before place lines)) (λ before.
-    every_arrival rails (λ arrived. passes (arrived_values net arrived (holds_of holds) place count before))))
-    (min (place + count) (line_count net))
+    work_out (holding (holds_of holds)) (take count (drop (place - 2) (drivers_of rails net.gates))) (map read_back (lines_before place lines))
 
 -- The lines worked out go to the first buffer, behind the earlier ones, which stay as they are; the pairs go to the second exactly if
 -- the place out is the line after the last. A refusal leaves both as they came.

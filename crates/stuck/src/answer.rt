@@ -3,7 +3,7 @@ ghost use Rattle.std.specs.Prelude.{◌≡◌};
 ghost use Rattle.stuck.specs.Service.{way_of, hidden_probe, refused_probe};
 
 // How a pair without a code shows; or that no code input shows the held pin.
-#[derive(Drop)]
+#[derive(Clone, Copy, Drop)]
 pub enum Way {
     BothLow,
     BothHigh,
@@ -11,7 +11,7 @@ pub enum Way {
 }
 
 // What probe returns: the smallest betraying input, the lowest output that shows it there and the way it shows; hidden; or the refusal.
-#[derive(Drop)]
+#[derive(Clone, Copy, Drop)]
 pub struct Probed {
     pub refusal: u32,
     pub input: u32,

@@ -8,7 +8,7 @@ ghost use Rattle.stuck.specs.Inner.Findings.{AcceptedDiagram};
 use diagram::Diagram;
 
 // Question 15's answer.
-#[derive(Drop)]
+#[derive(Clone, Copy, Drop)]
 pub enum Fanout {
     Read,
     Unread,

@@ -1,4 +1,5 @@
 // What probe is asked and answers about a stuck line or pin.
+#![tactic(auto)]
 mod answer;
 mod fanout;
 mod hold;

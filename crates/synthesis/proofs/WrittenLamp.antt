@@ -10,7 +10,7 @@ use Rattle.fields.proofs.Parts.{flat_append}
 use Rattle.diagram.specs.declared.Diagram.{Diagram}
 use Rattle.diagram.specs.Questions.{Sized}
 use Rattle.files.proofs.Buffers.{taken_back}
-use Rattle.files.proofs.Written.{onward}
+use Rattle.files.proofs.WrittenLemmas.{onward}
 use Rattle.netlist.specs.declared.Pair.{Pair}
 use Rattle.netlist.specs.Netlist.{Netlist, gate_line, line_count, pairs_of, gate_bytes, pair_bytes, file_with, file_of}
 use Rattle.netlist.proofs.Files.{length-gate-bytes, length-pair-bytes, pairs-back}

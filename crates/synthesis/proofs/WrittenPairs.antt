@@ -11,7 +11,7 @@ use Rattle.diagram.specs.declared.Diagram.{Diagram}
 use Rattle.diagram.specs.Diagram.{root}
 use Rattle.diagram.specs.Questions.{Sized, in_range}
 use Rattle.diagram.proofs.Paths.{root_in}
-use Rattle.files.proofs.Written.{sets_more}
+use Rattle.files.proofs.WrittenLemmas.{sets_more}
 use Rattle.netlist.specs.declared.Pair.{Pair}
 use Rattle.netlist.specs.Netlist.{pair_bytes}
 use Rattle.fields.specs.Bounded.{listed}

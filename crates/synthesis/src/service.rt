@@ -14,7 +14,7 @@ use files::{Room, Written};
 
 // What check returns: a table's contacts and outputs and its netlist's gates and depth, or the refusal.
 #[repr(C)]
-#[derive(Drop)]
+#[derive(Clone, Copy, Drop)]
 pub struct Checked {
     pub refusal: u32,
     pub contacts: u32,

@@ -7,14 +7,14 @@ ghost use Rattle.table.specs.Table.{outputs_in, levels_in};
 use fields::{Cursor, Field, Step};
 
 // Question 3's answer: the count of outputs.
-#[derive(Drop)]
+#[derive(Clone, Copy, Drop)]
 pub enum Outputs {
     Listed(usize),
     Unlisted,
 }
 
 // Question 4's answer.
-#[derive(Drop)]
+#[derive(Clone, Copy, Drop)]
 pub enum Levels {
     Given,
     Lacking,

@@ -12,7 +12,7 @@ use files::Contacts;
 use twins::{Comparison, Twins};
 
 // A table's diagram, or the number of the first question that it fails and nothing else.
-#[derive(Drop)]
+#[derive(Clone, Copy, Drop)]
 pub struct Table {
     pub refusal: u32,
     pub diagram: Diagram,
@@ -20,7 +20,7 @@ pub struct Table {
 
 // The outputs at an input, output j with the weight 2^j, or the refusal.
 #[repr(C)]
-#[derive(Drop)]
+#[derive(Clone, Copy, Drop)]
 pub struct Reading {
     pub refusal: u32,
     pub word: u32,

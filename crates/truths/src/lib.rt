@@ -1,4 +1,5 @@
 // The truth tables of drawings, and the service from-drawing.
+#![tactic(auto)]
 mod numbers;
 mod paths;
 mod service;

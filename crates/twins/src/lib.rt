@@ -1,4 +1,5 @@
 // Question 6: the first two alike nodes of one level, and how many pairs are compared to find them.
+#![tactic(auto)]
 ghost use Rattle.std.specs.Prelude.{◌≡◌, ◌+◌, ◌*◌, ◌<◌, length};
 ghost use Rattle.fields.specs.Bounded.{least};
 ghost use Rattle.diagram.specs.Inner.Bytes.{is_like};
@@ -6,7 +7,7 @@ ghost use Rattle.diagram.specs.Inner.Lent.{Fit, WithLevels};
 ghost use Rattle.twins.specs.Twins.{comparison_of};
 
 // Two nodes of one level, the later with the greater number.
-#[derive(Drop)]
+#[derive(Clone, Copy, Drop)]
 pub struct Pair {
     pub level: usize,
     pub later: usize,
@@ -14,14 +15,14 @@ pub struct Pair {
 }
 
 // Question 6's answer: no two nodes of one level are alike, or the first two that are (duplicate nodes, in the field's terms).
-#[derive(Drop)]
+#[derive(Clone, Copy, Drop)]
 pub enum Twins {
     Absent,
     Present(Pair),
 }
 
 // The answer, and how many pairs were compared.
-#[derive(Drop)]
+#[derive(Clone, Copy, Drop)]
 pub struct Comparison {
     pub twins: Twins,
     pub compared: usize,

@@ -1,4 +1,5 @@
 // What a case shows of files, tables, drawings, rule sheets, runs, steps and sheets.
+#![tactic(auto)]
 pub mod drawings;
 pub mod rows;
 pub mod rules;

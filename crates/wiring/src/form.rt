@@ -9,7 +9,7 @@ use fields::Field;
 use files::{Contacts, Row};
 
 // Question 11's answer: the count of contacts.
-#[derive(Drop)]
+#[derive(Clone, Copy, Drop)]
 pub enum Form {
     Formed(usize),
     Unformed,

@@ -9,7 +9,7 @@ use fields::Field;
 
 // A netlist's contacts and the fields of its gates, its outputs and its lamp, or the number of the first question that it fails. The
 // lamp's field is empty where there is none.
-#[derive(Drop)]
+#[derive(Clone, Copy, Drop)]
 pub struct Parts {
     pub refusal: u32,
     pub contacts: usize,

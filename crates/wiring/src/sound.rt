@@ -4,7 +4,7 @@ ghost use Rattle.netlist.specs.Netlist.{number_at};
 ghost use Rattle.wiring.specs.Questions.{are_gates, are_pairs, wiring_of};
 
 // Question 12's answer.
-#[derive(Drop)]
+#[derive(Clone, Copy, Drop)]
 pub enum Wiring {
     Sound,
     Unsound,
