@@ -8,7 +8,7 @@ use Rattle.reader.proofs.found.Goals as goal
 pub returns-in_default : goal.returns-in_default
 returns-in_default c =
     let args = c.args in
-    none_found args.file.now args.step-1 c.in_default.not-Next
+    none_found args.file.now args.step c.in_default.not-Next
 
 pub returns : goal.returns
 returns c = c.value.ensures ∙ ap (found_in _) (sym c.in-Next.is)
