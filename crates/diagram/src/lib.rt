@@ -1,5 +1,6 @@
 // Quasi-reduced decision diagrams with several outputs: questions 5 and 7 about one, and its outputs at an input.
 #![tactic(auto)]
+
 mod evaluate;
 mod fork;
 mod sound;

@@ -3,6 +3,7 @@
 // Lines 0 and 1 are the constants. The true rail of contact i is line 2 + 2 i, its false rail 3 + 2 i, and gate g is line
 // 2 + 2 n + g.
 #![tactic(auto)]
+
 mod file;
 mod parts;
 

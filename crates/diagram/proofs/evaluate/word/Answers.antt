@@ -1,0 +1,74 @@
+-- `evaluate::word` meets its contract. The loop's invariant: `word` is that of the outputs passed, each a byte, so that the sum fits.
+use borrow.Author.Rules.{rules}
+use native.Mathlib.Omega.{arith}
+use native.Mathlib.Nat.{le_antisymm, mul-le-mul_right, pow-le-pow_right}
+use native.Mathlib.Numerals.{add-one}
+use Prim.Native.Nat.{ℕ, ◌+◌, ◌*◌, ◌%◌, ◌^◌, ◌-◌, ◌≤◌, ◌<◌}
+use mathlib.Core.Path.{◌≡◌, refl}
+use mathlib.Core.List.{List}
+use lib.ListN.{get_or}
+use lib.Pow.{shl_exact}
+use Rattle.diagram.specs.declared.Diagram.{Diagram}
+use Rattle.diagram.specs.Diagram.{input_of, path, root, value_at, word_of, word_at}
+use Rattle.diagram.specs.Inner.Lent.{HasOutputs}
+use Rattle.diagram.proofs.evaluate.word.Goals as goal
+
+-- A byte v, shifted by j and added to the word w of j outputs.
+exact : (v j : ℕ) → v < 256 → j < 8 → v * 2 ^ j % 2 ^ 32 ≡ v * 2 ^ j
+exact v j b h = shl_exact 8 j 32 b (omega arith)
+
+grown : (w v j : ℕ) → v < 256 → w + 255 ≤ 255 * 2 ^ j → w + v * 2 ^ j + 255 ≤ 255 * 2 ^ (j + 1)
+grown w v j b g =
+    let m : v * 2 ^ j ≤ 255 * 2 ^ j = mul-le-mul_right (2 ^ j) (omega arith) in
+    rw (add-one j) (omega arith)
+
+small : (w v j : ℕ) → v < 256 → j < 8 → w + 255 ≤ 255 * 2 ^ j → w + v * 2 ^ j < 2 ^ 32
+small w v j b h g =
+    let p : 2 ^ (j + 1) ≤ 2 ^ 8 = pow-le-pow_right {n = 2} (omega arith) {i = j + 1} {j = 8} (omega arith) in
+    omega (arith, grown w v j b g)
+
+one_more : (d : Diagram) (n m a j w v : ℕ) (rs : List ℕ) → d.contacts ≡ n → HasOutputs d m rs → w ≡ word_at d (input_of a) j →
+    v ≡ path d (input_of a) n 0 (get_or rs j 0) → w + v * 2 ^ j ≡ word_at d (input_of a) (j + 1)
+unfolding word_of value_at root
+one_more d n m a j w v rs h g e f = rw (add-one j) (cc g.roots)
+
+pub loop-j-init : goal.loop-j-init
+unfolding word_of
+loop-j-init c = (omega arith, omega arith, λ d h e g. refl)
+
+pub bounds-roots-j : goal.bounds-roots-j
+bounds-roots-j c = omega (arith, c.requires.2)
+
+pub lead-requires : goal.lead-requires
+lead-requires c = c.requires.0
+
+pub overflow_cast-word : goal.overflow_cast-word
+overflow_cast-word c = omega (arith, c.lead.type_inv)
+
+pub overflow_cast-word-in-loop-j : goal.overflow_cast-word-in-loop-j
+overflow_cast-word-in-loop-j c = omega (arith, c.requires.1)
+
+pub overflow_shl-word : goal.overflow_shl-word
+overflow_shl-word c = omega (arith, c.requires.1)
+
+pub overflow_add-word : goal.overflow_add-word
+overflow_add-word c =
+    let loop = c.loop-j in
+    let few : loop.j < 8 = omega (arith, c.requires.1) in
+    let byte : c.lead.result < 256 = omega (arith, c.lead.type_inv) in
+    record { fits = rw (exact c.lead.result loop.j byte few) (small loop.word c.lead.result loop.j byte few loop.invariant.1) }
+
+pub loop-j-preserved : goal.loop-j-preserved
+loop-j-preserved c =
+    let a = c.args in
+    let loop = c.loop-j in
+    let few : loop.j < 8 = omega (arith, c.requires.1) in
+    let byte : c.lead.result < 256 = omega (arith, c.lead.type_inv) in
+    let e = exact c.lead.result loop.j byte few in (
+      omega arith,
+      rw e (grown loop.word c.lead.result loop.j byte loop.invariant.1),
+      λ d h f g. rw e (one_more d a.n a.m a.input loop.j loop.word c.lead.result a.roots.now h g (loop.invariant.2 d h f g) (c.lead.ensures d f)),
+    )
+
+pub returns : goal.returns
+returns c = rw (le_antisymm c.loop-j.invariant.0 c.loop-j-test.false) at c.loop-j.invariant.2

@@ -1,0 +1,25 @@
+-- `sound::in_turn` meets its contract. The loop's invariant: the mentions passed are in turn, and `next` is what they bring.
+use borrow.Author.Rules.{rules}
+use borrow.Author.Tests.{le-leb}
+use native.Mathlib.Omega.{arith}
+use Prim.Native.Nat.{ℕ, ◌+◌, ◌-◌, ◌≤◌}
+use mathlib.Core.Path.{◌≡◌, sym, ap, ◌∙◌}
+use mathlib.Core.Bool.{true}
+use mathlib.Core.Logic.{⊎_elim}
+use mathlib.Core.List.{List}
+use lib.Dec.{eqb}
+use lib.ListN.{get_or}
+use Rattle.fields.specs.Bounded.{all}
+use Rattle.fields.proofs.Bounded.{all_none, all_more}
+use Rattle.diagram.specs.Questions.{brought}
+use Rattle.diagram.proofs.Turns.{is_turn, brought-none, brought-next, brought-before, turn-broken, turn_end}
+use Rattle.diagram.proofs.sound.in_turn.Given as goal
+
+abbrev pub byte_at : List ℕ → ℕ → ℕ → ℕ
+byte_at bytes from k = get_or bytes (from + k) 0
+
+abbrev pub invariant-loop-k : goal.invariant-loop-k
+invariant-loop-k l = (l.k ≤ l.count) × (l.next ≤ l.k) × (l.next ≡ brought (byte_at l.bytes l.from) l.k) × (all l.k (is_turn (byte_at l.bytes l.from)) ≡ true)
+
+abbrev pub decreases-loop-k : goal.decreases-loop-k
+decreases-loop-k l = l.count - l.k
