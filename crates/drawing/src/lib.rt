@@ -1,5 +1,6 @@
 // Drawings, decision diagrams as planners draw them: question 16.
 #![tactic(auto)]
+
 mod form;
 
 pub use form::{Form, ask_form};

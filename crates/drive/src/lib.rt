@@ -1,5 +1,6 @@
 // Questions 13, 14 and 21, about what a netlist is run with and from where.
 #![tactic(auto)]
+
 ghost use Rattle.std.specs.Prelude.{◌≡◌, ◌≤◌};
 ghost use Rattle.drive.specs.Questions.{rails_of, rank_of, is_hold, order_of, place_of};
 

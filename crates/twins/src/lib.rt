@@ -1,5 +1,6 @@
 // Question 6: the first two alike nodes of one level, and how many pairs are compared to find them.
 #![tactic(auto)]
+
 ghost use Rattle.std.specs.Prelude.{◌≡◌, ◌+◌, ◌*◌, ◌<◌, length};
 ghost use Rattle.fields.specs.Bounded.{least};
 ghost use Rattle.diagram.specs.Inner.Bytes.{is_like};

@@ -1,5 +1,6 @@
 // Questions 11 and 12, about netlist files, and reading one.
 #![tactic(auto)]
+
 mod form;
 mod reading;
 mod sound;

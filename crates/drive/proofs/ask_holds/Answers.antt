@@ -1,0 +1,51 @@
+use borrow.Author.Rules.{rules}
+use borrow.Author.Tests.{eq-eqb, ne_eqb, not-true, not-false}
+use native.Mathlib.Omega.{arith}
+use Prim.Native.Nat.{◌-◌, ◌/◌, ◌≤◌}
+use mathlib.Core.Path.{◌≡◌, refl, sym, ◌∙◌}
+use mathlib.Core.Bool.{true}
+use lib.ListN.{length}
+use Rattle.fields.specs.Bounded.{all}
+use Rattle.fields.proofs.Bounded.{all_none}
+use Rattle.netlist.specs.Netlist.{hold_at}
+use Rattle.drive.specs.Questions.{is_hold, rank_before, are_ordered}
+use Rattle.drive.proofs.Tests.{disordered, one_more, rank-next}
+use Rattle.drive.proofs.ask_holds.Reads as reads
+use Rattle.drive.proofs.ask_holds.Lts as lts
+use Rattle.drive.proofs.is_hold.Reads as is-hold-reads
+use Rattle.drive.proofs.rank.Reads as rank-reads
+use Rattle.netlist.proofs.hold_at.Reads as hold-at-reads
+use Rattle.drive.proofs.ask_holds.Goals as goal
+
+-- src/lib.rt:69:9
+pub returns-then-holds-ne0 : goal.returns-then-holds-ne0
+unfolding are_ordered
+returns-then-holds-ne0 c = simp (ne_eqb _ _ c.if-holds-ne0.true)
+
+-- src/lib.rt:72:5
+pub loop-i-init : goal.loop-i-init
+loop-i-init c = (refl, omega arith, refl, all_none _)
+
+-- src/lib.rt:75:13
+pub returns-then-not-is_hold : goal.returns-then-not-is_hold
+returns-then-not-is_hold c =
+    let inv = c.loop-i.invariant in
+    disordered _ _ _ _ inv.2 c.hold_at-hold.ensures (omega arith) (sym c.is_hold.ensures ∙ c.if-not-is_hold.true)
+
+-- src/lib.rt:72:5
+pub loop-i-preserved : goal.loop-i-preserved
+loop-i-preserved c =
+    let a = c.args in
+    let inv = c.loop-i.invariant in (
+      inv.0,
+      omega arith,
+      c.rank-last.ensures ∙ rank-next a.first a.lines a.holds.now c.loop-i.i inv.2 c.hold_at-hold.ensures,
+      one_more _ _ _ _ inv.2 c.hold_at-hold.ensures inv.3 (sym c.is_hold.ensures ∙ c.if-not-is_hold.false),
+    )
+
+-- src/lib.rt:65:1
+pub returns : goal.returns
+unfolding are_ordered
+returns c =
+    let done : c.loop-i.i ≡ length c.args.holds.now / 3 = omega arith in
+    simp (eq-eqb _ _ c.if-holds-ne0.false, rw done at c.loop-i.invariant.3)
