@@ -1,5 +1,6 @@
 // The lines of a netlist worked out, with lines and pins held.
 #![tactic(auto)]
+
 mod lines;
 mod ranks;
 

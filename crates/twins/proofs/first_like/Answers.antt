@@ -10,6 +10,7 @@ use lib.ListN.{get_or}
 use Rattle.fields.proofs.Least.{least-is, least-none}
 use Rattle.diagram.specs.Inner.Bytes.{is_like}
 use Rattle.twins.proofs.Pairs.{none_more}
+use Rattle.twins.proofs.first_like.Goals.{then-edges-from+else-edges-from-2, else-edges-from}
 use Rattle.twins.proofs.first_like.Goals as goal
 
 -- Two nodes are alike if both edges are, and differ if one does.
@@ -38,8 +39,11 @@ pub loop-u-preserved : goal.loop-u-preserved
 loop-u-preserved c =
     let loop = c.loop-u in
     let a = c.args in
-    let e =
-    ? in
+    let e : is_like a.edges.now a.from a.v loop.u ≡ false =
+    elim c.if-edges-from.branch [
+      | then-edges-from+else-edges-from-2 w ↦ differ-one a.edges.now a.from a.v loop.u w.if-edges-from-2.false
+      | else-edges-from w ↦ differ-zero a.edges.now a.from a.v loop.u w.if-edges-from.false
+    ] in
     (omega arith, none_more _ loop.invariant.1 e)
 
 pub returns : goal.returns
