@@ -10,6 +10,7 @@ use Rattle.wiring.proofs.Tests.{gates-at}
 use Rattle.batches.specs.Inner.Batches.{half_of, gate_batch, hold_of, GatesReady}
 use Rattle.search.proofs.GateBatches.{none_made, both-made, left_in, right-in}
 use Rattle.search.proofs.Halves.{length-half}
+use Rattle.search.proofs.passes.put_gates.Goals.{In-loop-g}
 use Rattle.search.proofs.passes.put_gates.Goals as goal
 
 pub loop-g-init : goal.loop-g-init
@@ -37,15 +38,18 @@ turn-of {first = first} {gates = gates} before ws g p l same =
       sourced = omega (arith, p.sourced.room);
     }
 
+turn : (c : In-loop-g) → Turn c.args.gates.now c.args.sources.now c.args.first c.loop-g.batches c.loop-g.g
+turn c = turn-of c.args.batches.now c.loop-g.batches c.loop-g.g c.requires.0 (omega arith) c.loop-g.invariant.2
+
 pub source_place-left-requires : goal.source_place-left-requires
-source_place-left-requires c = omega (arith, (turn-of c.args.batches.now c.loop-g.batches c.loop-g.g c.requires.0 (omega arith) c.loop-g.invariant.2).sourced)
+source_place-left-requires c = omega (arith, (turn (goal.at.source_place-left-requires c).In-loop-g).sourced)
 
 pub source_place-right-requires : goal.source_place-right-requires
-source_place-right-requires c = omega (arith, (turn-of c.args.batches.now c.loop-g.batches c.loop-g.g c.requires.0 (omega arith) c.loop-g.invariant.2).sourced)
+source_place-right-requires c = omega (arith, (turn (goal.at.source_place-right-requires c).In-loop-g).sourced)
 
 pub make_batch-made-requires : goal.make_batch-made-requires
 make_batch-made-requires c =
-    let t = turn-of c.args.batches.now c.loop-g.batches c.loop-g.g c.requires.0 (omega arith) c.loop-g.invariant.2 in
+    let t = turn (goal.at.make_batch-made-requires c).In-loop-g in
     let r = t.room in (
       omega (arith, c.kind_place-kind.ensures, t.kind, c.requires.0.after),
       omega (arith, c.source_place-left.ensures, t.left),
@@ -54,25 +58,25 @@ make_batch-made-requires c =
 
 pub overflow_add-kind : goal.overflow_add-kind
 overflow_add-kind c =
-    let t = turn-of c.args.batches.now c.loop-g.batches c.loop-g.g c.requires.0 (omega arith) c.loop-g.invariant.2 in
+    let t = turn (goal.at.overflow_add-kind c).In-loop-g in
     let r = t.room in
     omega (arith, c.kind_place-kind.ensures, t.kind, c.requires.0.after)
 
 pub overflow_add-left : goal.overflow_add-left
 overflow_add-left c =
-    let t = turn-of c.args.batches.now c.loop-g.batches c.loop-g.g c.requires.0 (omega arith) c.loop-g.invariant.2 in
+    let t = turn (goal.at.overflow_add-left c).In-loop-g in
     let r = t.room in
     omega (arith, c.source_place-left.ensures, t.left, c.requires.0.after)
 
 pub overflow_add-right : goal.overflow_add-right
 overflow_add-right c =
-    let t = turn-of c.args.batches.now c.loop-g.batches c.loop-g.g c.requires.0 (omega arith) c.loop-g.invariant.2 in
+    let t = turn (goal.at.overflow_add-right c).In-loop-g in
     let r = t.room in
     omega (arith, c.source_place-right.ensures, t.right, c.requires.0.after)
 
 pub make_batch-more-requires : goal.make_batch-more-requires
 make_batch-more-requires c =
-    let t = turn-of c.args.batches.now c.loop-g.batches c.loop-g.g c.requires.0 (omega arith) c.loop-g.invariant.2 in
+    let t = turn (goal.at.make_batch-more-requires c).In-loop-g in
     let r = t.room in (
       omega (arith, c.kind_place-kind.ensures, t.kind, c.requires.0.after),
       omega (arith, c.source_place-left.ensures, t.left),
@@ -80,30 +84,30 @@ make_batch-more-requires c =
     )
 
 pub overflow_add-to : goal.overflow_add-to
-overflow_add-to c = omega (arith, (turn-of c.args.batches.now c.loop-g.batches c.loop-g.g c.requires.0 (omega arith) c.loop-g.invariant.2).room)
+overflow_add-to c = omega (arith, (turn (goal.at.overflow_add-to c).In-loop-g).room)
 
 pub overflow_mul-to : goal.overflow_mul-to
-overflow_mul-to c = omega (arith, (turn-of c.args.batches.now c.loop-g.batches c.loop-g.g c.requires.0 (omega arith) c.loop-g.invariant.2).room)
+overflow_mul-to c = omega (arith, (turn (goal.at.overflow_mul-to c).In-loop-g).room)
 
 pub offset_bounds-batches-to : goal.offset_bounds-batches-to
-offset_bounds-batches-to c = omega (arith, (turn-of c.args.batches.now c.loop-g.batches c.loop-g.g c.requires.0 (omega arith) c.loop-g.invariant.2).room)
+offset_bounds-batches-to c = omega (arith, (turn (goal.at.offset_bounds-batches-to c).In-loop-g).room)
 
 pub bounds-batches-to : goal.bounds-batches-to
-bounds-batches-to c = omega (arith, (turn-of c.args.batches.now c.loop-g.batches c.loop-g.g c.requires.0 (omega arith) c.loop-g.invariant.2).room)
+bounds-batches-to c = omega (arith, (turn (goal.at.bounds-batches-to c).In-loop-g).room)
 
 pub overflow_add-batches : goal.overflow_add-batches
-overflow_add-batches c = omega (arith, (turn-of c.args.batches.now c.loop-g.batches c.loop-g.g c.requires.0 (omega arith) c.loop-g.invariant.2).room)
+overflow_add-batches c = omega (arith, (turn (goal.at.overflow_add-batches c).In-loop-g).room)
 
 pub offset_bounds-batches-to-in-loop-g : goal.offset_bounds-batches-to-in-loop-g
-offset_bounds-batches-to-in-loop-g c = omega (arith, (turn-of c.args.batches.now c.loop-g.batches c.loop-g.g c.requires.0 (omega arith) c.loop-g.invariant.2).room)
+offset_bounds-batches-to-in-loop-g c = omega (arith, (turn (goal.at.offset_bounds-batches-to-in-loop-g c).In-loop-g).room)
 
 pub bounds-batches-to-in-loop-g : goal.bounds-batches-to-in-loop-g
-bounds-batches-to-in-loop-g c = simp length-set (omega (arith, (turn-of c.args.batches.now c.loop-g.batches c.loop-g.g c.requires.0 (omega arith) c.loop-g.invariant.2).room))
+bounds-batches-to-in-loop-g c = simp length-set (omega (arith, (turn (goal.at.bounds-batches-to-in-loop-g c).In-loop-g).room))
 
 pub loop-g-preserved : goal.loop-g-preserved
 loop-g-preserved c =
     let a = c.args in
-    let t = turn-of c.args.batches.now c.loop-g.batches c.loop-g.g c.requires.0 (omega arith) c.loop-g.invariant.2 in
+    let t = turn (goal.at.loop-g-preserved c).In-loop-g in
     let ws = c.loop-g.batches in
     let k = c.kind_place-kind.ensures in
     let l = c.source_place-left.ensures in
