@@ -1,4 +1,5 @@
-// Text, numbers and bytes on standard output, and the parts of a spelt case.
+// Text, numbers and bytes as a program shows them, and the parts of a spelt case.
 #![tactic(auto)]
+
 pub mod print;
 pub mod spelling;

@@ -1,53 +1,55 @@
-// Text, numbers and bytes on standard output.
+// Text, numbers and bytes, written to where the caller says.
 use crate::spelling;
-use libc::STDOUT_FILENO;
+use std::io;
+use std::io::Write;
 
-pub fn text(line: &[u8]) {
-    io::write_all(STDOUT_FILENO, line);
+pub fn text<W: Write>(out: &mut W, line: &[u8]) -> io::Result<()> {
+    out.write_all(line)
 }
 
 // A text with up to three numbers in it, one for each `%`.
-pub fn form(line: &[u8], a: usize, b: usize, c: usize) {
+pub fn form<W: Write>(out: &mut W, line: &[u8], a: usize, b: usize, c: usize) -> io::Result<()> {
     let numbers = [a, b, c];
     let mut at = 0;
     for i in 0..3 {
         let mark = spelling::find(line, at, b'%');
-        text(&line[at..mark]);
+        text(out, &line[at..mark])?;
         if mark == line.len() {
-            return;
+            return Ok(());
         }
-        io::print_decimal(STDOUT_FILENO, numbers[i] as u64);
+        write!(out, "{}", numbers[i])?;
         at = mark + 1;
     }
-    text(&line[at..]);
+    text(out, &line[at..])
 }
 
 // The bytes of a part, each after a space: the first sixteen, and `..` where there are more.
-pub fn bytes(part: &[u8]) {
+pub fn bytes<W: Write>(out: &mut W, part: &[u8]) -> io::Result<()> {
     for i in 0..part.len() {
         if i == 16 {
-            text(b" ..");
-            return;
+            return text(out, b" ..");
         }
-        text(b" ");
-        byte(part[i]);
+        text(out, b" ")?;
+        byte(out, part[i])?;
     }
+    Ok(())
 }
 
-fn byte(b: u8) {
-    io::print_hex(STDOUT_FILENO, b as u64, 2);
+fn byte<W: Write>(out: &mut W, b: u8) -> io::Result<()> {
+    write!(out, "{b:02x}")
 }
 
 // A text, and the bytes of a part as a case spells them.
-pub fn spelt(line: &[u8], part: &[u8]) {
-    text(line);
+pub fn spelt<W: Write>(out: &mut W, line: &[u8], part: &[u8]) -> io::Result<()> {
+    text(out, line)?;
     if part.len() == 0 {
-        text(b"none");
+        text(out, b"none")?;
     }
     for i in 0..part.len() {
         let sign = [spelling::sign_of(part[i])];
-        text(&sign);
+        text(out, &sign)?;
     }
+    Ok(())
 }
 
 // A buffer whose first bytes are lent, as points.
@@ -55,21 +57,28 @@ pub type Lent = [u8; 10610];
 
 // A text, and what is left of lent bytes from a place to another: a digit for a byte that was written, a point for one that was
 // not.
-pub fn signs(line: &[u8], lent: &Lent, from: usize, to: usize) {
-    text(line);
+pub fn signs<W: Write>(
+    out: &mut W,
+    line: &[u8],
+    lent: &Lent,
+    from: usize,
+    to: usize,
+) -> io::Result<()> {
+    text(out, line)?;
     if to <= from {
-        text(b"none");
+        text(out, b"none")?;
     }
     for i in from..to {
-        sign(lent[i % 10610]);
+        sign(out, lent[i % 10610])?;
     }
+    Ok(())
 }
 
-fn sign(b: u8) {
+fn sign<W: Write>(out: &mut W, b: u8) -> io::Result<()> {
     if b == b'.' {
-        text(b".");
+        text(out, b".")
     } else {
-        io::print_decimal(STDOUT_FILENO, b as u64);
+        write!(out, "{b}")
     }
 }
 

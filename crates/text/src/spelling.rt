@@ -1,9 +1,11 @@
 // The parts of a case. Bytes are spelt with one sign each: 0 to 9, a to z for 10 to 35, A to Z and the six signs behind Z for 36
 // to 67, the three signs behind z for 127 to 129, @ for 255. Numbers are written with digits. Signs below 0, the space among them,
 // stand for nothing, but a stroke ends a part.
-ghost use Rattle.std.specs.Prelude.{◌+◌, ◌≤◌, ◌<◌, length};
+ghost use Rattle.std.specs.Prelude.{◌+◌, ◌≤◌, ◌<◌, length, IfOk};
 
 use crate::print;
+use std::io;
+use std::io::Write;
 
 // The place of the next sign of a kind from a place on, or the text's end.
 pub fn find(text: &[u8], from: usize, sign: u8) -> usize
@@ -103,16 +105,16 @@ fn put_length(case: &mut [u8; 1024], start: usize, end: usize)
 }
 
 // The number that the digits of a case's part are, which is to be below a bound.
-pub fn number(case: &[u8], part: usize, bound: usize) -> usize
+pub fn number<W: Write>(out: &mut W, case: &[u8], part: usize, bound: usize) -> io::Result<usize>
     requires { 0 < bound }
-    ensures { result < bound }
+    ensures { IfOk result (λ n. n < bound) }
 {
     let n = digits(reader::nth(case, part));
     if n < bound {
-        return n;
+        return Ok(n);
     }
-    print::text(b": too large");
-    0
+    print::text(out, b": too large")?;
+    Ok(0)
 }
 
 // The number that digits are, the last eighteen of them.
