@@ -1,22 +1,13 @@
 -- `service::probe_board` meets its contract: each return is the case of `probing_on` that the hold, its line and the room lead to.
 use native.Mathlib.Omega.{arith}
-use Prim.Native.Nat.{ℕ, ◌+◌, ◌*◌, ◌≤◌}
+use Prim.Native.Nat.{◌+◌, ◌*◌}
 use mathlib.Core.Path.{◌≡◌, sym, ap, ◌∙◌}
-use mathlib.Core.List.{List}
-use lib.ListN.{length, take}
+use lib.ListN.{take}
 use lib.Seq.{length-take-le}
-use Rattle.diagram.specs.declared.Diagram.{Diagram}
-use Rattle.diagram.specs.Questions.{Sized}
 use Rattle.drive.specs.declared.Holds.TheVariants.{Ordered}
-use Rattle.files.specs.declared.room.Room.TheVariants.{Enough}
-use Rattle.netlist.specs.declared.Hold.{Hold}
-use Rattle.netlist.specs.Netlist.{gate_line, line_count, hold_at}
-use Rattle.drive.proofs.Tests.{HoldIn}
-use Rattle.files.specs.Room.{room_of}
+use Rattle.netlist.specs.Netlist.{gate_line, hold_at}
 use Rattle.rules.specs.Board.{board_of}
 use Rattle.synthesis.proofs.Services.{gates-few, taken-gates, taken-pairs}
-use Rattle.stuck.specs.Inner.Findings.{AcceptedDiagram}
-use Rattle.stuck.specs.declared.fanout.Fanout.TheVariants.{Read}
 use Rattle.stuck.specs.Service.{one_hold, fanout_of}
 use Rattle.stuck.proofs.Boards.{gates_on, pairs_on, sized, reduced}
 use Rattle.stuck.proofs.OneHold.{one-held, held-line, line_after}
