@@ -48,16 +48,19 @@ pub name_output-requires : goal.name_output-requires
 name_output-requires c =
     let a = c.args in
     let h = hold_at a.hold.now 0 in
-    let shown = part a.n a.gates.now a.pairs.now h c.in-At.input c.write_at-start.result a.buffer.now c.write_at-start.ensures.value c.write_at-start.ensures.buffer_after in
+    let w = c.write_at-start in
+    let shown = part a.n a.gates.now a.pairs.now h c.in-At.input w.result a.buffer.now w.ensures.value w.ensures.buffer_after in
     let count = length-lines a.n a.gates.now a.pairs.now h c.in-At.input in record {
       pairs_value = (rw (shown, count) c.requires.searchable.paired, c.requires.writable.bytes.1);
-      lines_value = rw shown (betrayed-at (net_of a.n a.gates.now a.pairs.now) h c.in-At.input (sym c.in-At.is ∙ searched (goal.at.name_output-requires c).After-search));
+      lines_value = rw shown (betrayed-at (net_of a.n a.gates.now a.pairs.now) h c.in-At.input
+          (sym c.in-At.is ∙ searched (goal.at.name_output-requires c).After-search));
     }
 
 pub returns : goal.returns
 returns c =
     let a = c.args in
-    let shown = part a.n a.gates.now a.pairs.now (hold_at a.hold.now 0) c.in-At.input c.write_at-start.result a.buffer.now c.write_at-start.ensures.value c.write_at-start.ensures.buffer_after in
+    let w = c.write_at-start in
+    let shown = part a.n a.gates.now a.pairs.now (hold_at a.hold.now 0) c.in-At.input w.result a.buffer.now w.ensures.value w.ensures.buffer_after in
     answer-seen _ _ _ a.buffer.now c.in-At.input (sym c.in-At.is ∙ searched (goal.at.returns c).After-search)
     (c.name_output.ensures ∙ ap (found_at (pairs_of a.pairs.now) c.in-At.input) shown)
     c.write_at-start.ensures.buffer_after
