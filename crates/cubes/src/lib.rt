@@ -1,5 +1,6 @@
 // The inputs that fit a rule, as a cube: a word of 64 for the last six contacts, the others by a mask and a value of the word's number.
 #![tactic(auto)]
+
 ghost use Rattle.std.specs.Prelude.{◌≡◌, Bool, ◌&&◌, ℕ, ◌+◌, ◌*◌, ◌-◌, ◌≤◌, ◌<◌, length};
 ghost use Rattle.diagram.specs.Diagram.{bit};
 ghost use Rattle.bits.specs.Inner.Bits.{bit_of};

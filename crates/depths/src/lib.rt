@@ -1,5 +1,6 @@
 // The depth of a netlist.
 #![tactic(auto)]
+
 mod depth;
 
 pub use depth::depth_of;

@@ -1,5 +1,6 @@
 // Products of matrices of entries, and the gates that they make.
 #![tactic(auto)]
+
 mod cell;
 mod product;
 

@@ -1,4 +1,4 @@
-// The reader remembers the file and how far it has read. Its functions take it apart and leave the work to covered ones.
+// The reader remembers the file and how far it has read. Its functions take it apart and leave the work to those of the cursor.
 #![tactic(auto)]
 
 mod place;

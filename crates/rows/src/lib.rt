@@ -1,5 +1,6 @@
 // The table of functions whose truth tables lie one after the other, each in as many words as its contacts need.
 #![tactic(auto)]
+
 ghost use Rattle.std.specs.Prelude.{◌≡◌, ◌*◌, ◌-◌, ◌^◌, ◌≤◌, length};
 ghost use Rattle.canonical.specs.Service.{tabling_of};
 ghost use Rattle.rows.specs.Inner.Rows.{row_at};

@@ -1,5 +1,6 @@
 // The search for the smallest code input that betrays a stuck line or pin, two batches of 64 inputs a pass.
 #![tactic(auto)]
+
 mod inputs;
 mod passes;
 

@@ -9,7 +9,7 @@ use Rattle.fields.proofs.Every.{every_take, every_drop}
 use Rattle.files.specs.Room.{over}
 use Rattle.files.proofs.Buffers.{over-at}
 use Rattle.netlist.specs.Netlist.{Netlist, holds_of, line_count}
-use Rattle.simulation.specs.Run.{Driver, holding, drivers_of, work_out}
+use Rattle.simulation.specs.Run.{Driver, holding, drivers_of}
 use Rattle.simulation.specs.Service.{read_back, lines_before, stepped_values}
 use Rattle.simulation.proofs.Reading.{BitDriver, Bits, bit-drivers, read-bits, reads-bits, worked-bits}
 use Rattle.simulation.proofs.Runs.{length_run, run_take}

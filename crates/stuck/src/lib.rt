@@ -1,5 +1,6 @@
 // What probe is asked and answers about a stuck line or pin.
 #![tactic(auto)]
+
 mod answer;
 mod fanout;
 mod hold;

@@ -1,5 +1,6 @@
 // From a diagram to its two-rail netlist, gate for gate, with a lamp or without.
 #![tactic(auto)]
+
 mod board;
 mod service;
 

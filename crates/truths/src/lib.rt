@@ -1,5 +1,6 @@
 // The truth tables of drawings, and the service from-drawing.
 #![tactic(auto)]
+
 mod numbers;
 mod paths;
 mod service;

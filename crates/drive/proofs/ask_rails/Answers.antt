@@ -1,12 +1,9 @@
 -- `ask_rails` meets its contract. The loop's invariant: each byte of the contacts passed is 0 or 1.
-use borrow.Author.Rules.{rules}
 use borrow.Author.Tests.{le-leb, lt-leb, eq-eqb, ne_eqb}
 use native.Mathlib.Omega.{arith}
-use Prim.Native.Nat.{◌+◌, ◌-◌, ◌*◌, ◌≤◌}
+use Prim.Native.Nat.{◌+◌, ◌*◌}
 use mathlib.Core.Path.{◌≡◌}
-use mathlib.Core.Bool.{true}
 use lib.ListN.{get_or}
-use Rattle.fields.specs.Bounded.{all}
 use Rattle.fields.proofs.Bounded.{all_none, all_more, all-not}
 use Rattle.drive.specs.Questions.{is_bit}
 use Rattle.drive.proofs.ask_rails.Goals as goal

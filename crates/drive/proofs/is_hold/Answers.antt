@@ -1,5 +1,4 @@
 -- `is_hold` meets its contract: each answer is the case that the tests lead to.
-use borrow.Author.Rules.{rules}
 use borrow.Author.Tests.{le-leb, lt-leb, le-ltb, lt-ltb}
 use native.Mathlib.Omega.{arith}
 use Rattle.drive.proofs.is_hold.Goals as goal

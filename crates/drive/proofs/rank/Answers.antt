@@ -1,7 +1,4 @@
-use borrow.Author.Rules.{rules}
 use borrow.Author.Tests.{le-leb, lt-leb}
-use Rattle.drive.proofs.rank.Reads as reads
-use Rattle.drive.proofs.rank.Lts as lts
 use Rattle.drive.proofs.rank.Goals as goal
 
 -- src/lib.rt:36:1

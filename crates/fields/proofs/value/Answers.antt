@@ -1,5 +1,4 @@
 -- `value` meets its contract: where the field runs past the file, what is taken past the end is nothing.
-use borrow.Author.Rules.{rules}
 use native.Mathlib.Omega.{arith}
 use native.Mathlib.Nat.{add-sub_cancel_left}
 use Prim.Native.Nat.{ℕ, ◌-◌}

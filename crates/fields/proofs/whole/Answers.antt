@@ -1,10 +1,7 @@
 -- `whole` meets its contract. The loop's invariant: the file's framing is that of the fields from the cursor on. The measure is what is left of the file.
-use borrow.Author.Rules.{rules}
 use native.Mathlib.Omega.{arith}
-use Prim.Native.Nat.{◌-◌}
-use mathlib.Core.Path.{◌≡◌, sym, ap, ◌∙◌}
-use lib.ListN.{length}
-use Rattle.fields.specs.Fields.{Fields, fields_from, fields_of}
+use mathlib.Core.Path.{sym, ap, ◌∙◌}
+use Rattle.fields.specs.Fields.{Fields, fields_of}
 use Rattle.fields.proofs.Steps.{stands, walk}
 use Rattle.fields.proofs.whole.Goals as goal
 

@@ -1,5 +1,4 @@
 -- `found` meets its contract: a step that is no field has no value.
-use borrow.Author.Rules.{rules}
 use mathlib.Core.Path.{sym, ap, ◌∙◌}
 use Rattle.reader.specs.Inner.Found.{found_in}
 use Rattle.reader.proofs.Places.{none_found}

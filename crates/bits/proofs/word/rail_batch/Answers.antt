@@ -1,5 +1,4 @@
 -- `word::rail_batch` meets its contract: contacts below 6 by their patterns, the others have one value at all 64 inputs.
-use borrow.Author.Rules.{rules}
 use native.Mathlib.Omega.{arith}
 use mathlib.Core.Path.{◌≡◌, sym, ◌∙◌}
 use Rattle.bits.specs.Inner.Bits.{bit_of}

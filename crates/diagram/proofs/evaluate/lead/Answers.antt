@@ -1,5 +1,4 @@
 -- `evaluate::lead` meets its contract. The loop's invariant: from node u of level l the levels left lead where all lead from the first node.
-use borrow.Author.Rules.{rules}
 use native.Mathlib.Nat.{sub-zero}
 use native.Mathlib.Numerals.{add-one}
 use native.Mathlib.Omega.{arith}

@@ -1,16 +1,8 @@
 -- `evaluate::lead` meets its contract. The loop's invariant: from node u of level l the levels left lead where all lead from the first node.
-use borrow.Author.Rules.{rules}
-use native.Mathlib.Nat.{sub-zero}
-use native.Mathlib.Numerals.{add-one}
-use native.Mathlib.Omega.{arith}
-use Prim.Native.Nat.{ℕ, zero, suc, ◌+◌, ◌*◌, ◌/◌, ◌%◌, ◌-◌, ◌^◌, ◌≤◌, ◌<◌}
-use mathlib.Core.Path.{◌≡◌, refl, ap, ◌∙◌}
-use mathlib.Core.List.{List}
-use lib.Dec.{eqb}
-use lib.ListN.{get_or}
-use lib.Pow.{shr-shr}
+use Prim.Native.Nat.{◌/◌, ◌-◌, ◌^◌, ◌≤◌, ◌<◌}
+use mathlib.Core.Path.{◌≡◌}
 use Rattle.diagram.specs.declared.Diagram.{Diagram}
-use Rattle.diagram.specs.Diagram.{bit, edge_at, input_of, path}
+use Rattle.diagram.specs.Diagram.{input_of, path}
 use Rattle.diagram.proofs.evaluate.lead.Given as goal
 
 abbrev pub invariant-loop-l : goal.invariant-loop-l

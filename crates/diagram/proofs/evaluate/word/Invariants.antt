@@ -1,15 +1,8 @@
 -- `evaluate::word` meets its contract. The loop's invariant: `word` is that of the outputs passed, each a byte, so that the sum fits.
-use borrow.Author.Rules.{rules}
-use native.Mathlib.Omega.{arith}
-use native.Mathlib.Nat.{le_antisymm, mul-le-mul_right, pow-le-pow_right}
-use native.Mathlib.Numerals.{add-one}
-use Prim.Native.Nat.{ℕ, ◌+◌, ◌*◌, ◌%◌, ◌^◌, ◌-◌, ◌≤◌, ◌<◌}
-use mathlib.Core.Path.{◌≡◌, refl}
-use mathlib.Core.List.{List}
-use lib.ListN.{get_or}
-use lib.Pow.{shl_exact}
+use Prim.Native.Nat.{◌+◌, ◌*◌, ◌^◌, ◌-◌, ◌≤◌}
+use mathlib.Core.Path.{◌≡◌}
 use Rattle.diagram.specs.declared.Diagram.{Diagram}
-use Rattle.diagram.specs.Diagram.{input_of, path, root, value_at, word_of, word_at}
+use Rattle.diagram.specs.Diagram.{input_of, word_at}
 use Rattle.diagram.specs.Inner.Lent.{HasOutputs}
 use Rattle.diagram.proofs.evaluate.word.Given as goal
 

@@ -1,15 +1,9 @@
 -- `fork::forks` meets its contract. The loop's invariant: no node passed has two different edges.
-use borrow.Author.Rules.{rules}
-use borrow.Author.Tests.{eq-eqb, ne_eqb}
-use native.Mathlib.Omega.{arith}
-use native.Mathlib.Nat.{add-zero}
 use Prim.Native.Nat.{◌-◌, ◌≤◌}
 use mathlib.Core.Path.{◌≡◌}
 use mathlib.Core.Bool.{false}
 use Rattle.fields.specs.Bounded.{any}
-use Rattle.fields.proofs.Bounded.{any_none, any-more}
 use Rattle.diagram.specs.Inner.Bytes.{is_fork}
-use Rattle.diagram.proofs.Loops.{any-end, any_met}
 use Rattle.diagram.proofs.fork.forks.Given as goal
 
 abbrev pub invariant-loop-u : goal.invariant-loop-u

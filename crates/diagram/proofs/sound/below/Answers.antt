@@ -1,13 +1,7 @@
 -- `sound::below` meets its contract. The loop's invariant: the bytes passed are below the bound.
-use borrow.Author.Rules.{rules}
 use borrow.Author.Tests.{lt-ltb, le-ltb}
 use native.Mathlib.Omega.{arith}
-use Prim.Native.Nat.{◌+◌, ◌-◌, ◌≤◌}
-use mathlib.Core.Path.{◌≡◌}
-use mathlib.Core.Bool.{true}
-use Rattle.fields.specs.Bounded.{all}
 use Rattle.fields.proofs.Bounded.{all_none, all_more}
-use Rattle.diagram.specs.Inner.Bytes.{is_below}
 use Rattle.diagram.proofs.Loops.{all_end, all-broken}
 use Rattle.diagram.proofs.sound.below.Goals as goal
 

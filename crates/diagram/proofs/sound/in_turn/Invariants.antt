@@ -1,18 +1,12 @@
 -- `sound::in_turn` meets its contract. The loop's invariant: the mentions passed are in turn, and `next` is what they bring.
-use borrow.Author.Rules.{rules}
-use borrow.Author.Tests.{le-leb}
-use native.Mathlib.Omega.{arith}
 use Prim.Native.Nat.{ℕ, ◌+◌, ◌-◌, ◌≤◌}
-use mathlib.Core.Path.{◌≡◌, sym, ap, ◌∙◌}
+use mathlib.Core.Path.{◌≡◌}
 use mathlib.Core.Bool.{true}
-use mathlib.Core.Logic.{⊎_elim}
 use mathlib.Core.List.{List}
-use lib.Dec.{eqb}
 use lib.ListN.{get_or}
 use Rattle.fields.specs.Bounded.{all}
-use Rattle.fields.proofs.Bounded.{all_none, all_more}
 use Rattle.diagram.specs.Questions.{brought}
-use Rattle.diagram.proofs.Turns.{is_turn, brought-none, brought-next, brought-before, turn-broken, turn_end}
+use Rattle.diagram.proofs.Turns.{is_turn}
 use Rattle.diagram.proofs.sound.in_turn.Given as goal
 
 abbrev pub byte_at : List ℕ → ℕ → ℕ → ℕ

@@ -1,5 +1,4 @@
 -- `sound::width` meets its contract: each answer is the case that the test picks.
-use borrow.Author.Rules.{rules}
 use borrow.Author.Tests.{lt-ltb, le-ltb}
 use Rattle.diagram.proofs.sound.width.Goals as goal
 

@@ -17,10 +17,10 @@ loop-x-init c =
     let a = c.args in
     let p = c.requires in (
       omega arith,
-      p.1.1,
-      p.0.1,
-      none-put (holds_of a.holds.now) a.rails.now a.gates.now a.from (omega (arith, p.1.0)) a.lines.now
-          (omega (arith, p.0.0.fits, p.1.1, p.1.2)),
+      p.rails_bound.1,
+      p.ready.1,
+      none-put (holds_of a.holds.now) a.rails.now a.gates.now a.from (omega (arith, p.rails_bound.0)) a.lines.now
+          (omega (arith, p.ready.0.fits, p.rails_bound.1, p.rails_bound.2)),
       refl,
     )
 
@@ -76,12 +76,6 @@ pub bounds-lines-x : goal.bounds-lines-x
 bounds-lines-x c =
     room_of (goal.at.bounds-lines-x c).At-loop-x c.loop-x-test.true
 
--- TODO no goal: add-x : tie.Need-overflow-add-x invariant-loop decreases-loop
--- TODO no goal: add-x c =
--- TODO no goal:     let turn = c.before.before.before.before.before.before.before.before in
--- TODO no goal:     let start = start_of turn.before in
--- TODO no goal:     omega (arith, turn.loop-test.true, start.pre.1.2, start.pre.0.0.few, start.pre.0.0.many)
-
 pub loop-x-preserved : goal.loop-x-preserved
 loop-x-preserved c =
     let shown = c.look-shown.ensures in
@@ -113,4 +107,4 @@ pub returns : goal.returns
 returns c =
     let a = c.args in
     let done : c.loop-x.x ≡ a.to = omega (arith, c.loop-x.invariant.1, c.loop-x-test.false) in
-    (rw done at c.loop-x.invariant.2, rw done at c.loop-x.invariant.3)
+    record { awaits = rw done at c.loop-x.invariant.2; lines_after = rw done at c.loop-x.invariant.3 }

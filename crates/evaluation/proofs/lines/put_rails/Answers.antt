@@ -64,4 +64,4 @@ loop-x-preserved c =
 pub returns : goal.returns
 returns c =
     let done : c.loop-x.x ≡ c.args.to = omega (arith, c.loop-x.invariant.1, c.loop-x-test.false) in
-    (rw done at c.loop-x.invariant.2, rw done at c.loop-x.invariant.3)
+    record { awaits = rw done at c.loop-x.invariant.2; lines_after = rw done at c.loop-x.invariant.3 }

@@ -1,11 +1,7 @@
 -- `Cursor::next` meets its contract. The loop's invariant: what stands at the cursor is what stands where it began. The measure is what
 -- is left of the file.
-use borrow.Author.Rules.{rules}
 use native.Mathlib.Omega.{arith}
-use Prim.Native.Nat.{◌-◌}
-use mathlib.Core.Path.{◌≡◌, refl, sym, ◌∙◌}
-use lib.ListN.{length}
-use Rattle.fields.specs.Inner.Walk.{step_at}
+use mathlib.Core.Path.{refl, sym, ◌∙◌}
 use Rattle.fields.proofs.Raw.{raw-stands}
 use Rattle.fields.proofs.Steps.{past-note, no_note, step-none}
 use Rattle.fields.proofs.Cursor.next.Goals as goal

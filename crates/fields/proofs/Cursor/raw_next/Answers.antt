@@ -1,5 +1,4 @@
 -- `Cursor::raw_next` meets its contract: each answer is the case of `raw_step_at` that the tests before it lead to.
-use borrow.Author.Rules.{rules}
 use native.Mathlib.Omega.{arith}
 use Rattle.fields.proofs.Raw.{raw-end, raw-cut, raw-next}
 use Rattle.fields.proofs.Cursor.raw_next.Goals as goal

@@ -1,5 +1,4 @@
 -- `Cursor::skip` meets its contract: what is left after `counter` fields is the invariant.
-use borrow.Author.Rules.{rules}
 use native.Mathlib.Omega.{arith}
 use Prim.Native.Nat.{ℕ, ◌+◌, ◌≤◌, ◌-◌}
 use native.Mathlib.Nat.{le_antisymm, add-sub_of_le}
@@ -7,7 +6,7 @@ use mathlib.Core.List.{List, [], ◌∷◌}
 use lib.Seq.{drop-drop, drop-nil}
 use mathlib.Core.Path.{◌≡◌, refl, sym, ap, ◌∙◌}
 use lib.ListN.{drop}
-use Rattle.fields.specs.Fields.{Item, Fields, fields_from}
+use Rattle.fields.specs.Fields.{Item, Fields}
 use Rattle.fields.proofs.Steps.{walk, ended}
 use Rattle.fields.proofs.Cursor.skip.Goals as goal
 

@@ -1,6 +1,4 @@
 -- `header::count_contacts` meets its contract: at each `return` the tests that led there decide question 2.
-use borrow.Author.Rules.{rules}
-use native.Mathlib.Omega.{arith}
 use mathlib.Core.Bool.{true, false}
 use borrow.Author.Tests.{eq-eqb, ne_eqb, le-leb, lt-leb}
 use Rattle.files.proofs.Counts.{contacts-by}

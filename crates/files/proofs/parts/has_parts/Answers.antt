@@ -1,5 +1,4 @@
 -- `parts::has_parts` meets its contract: each answer is the case that the tests before it lead to.
-use borrow.Author.Rules.{rules}
 use borrow.Author.Tests.{eq-eqb, ne_eqb, le-leb, lt-leb}
 use Rattle.files.proofs.parts.has_parts.Goals as goal
 

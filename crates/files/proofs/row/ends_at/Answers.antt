@@ -1,5 +1,4 @@
 -- `row::ends_at` meets its contract, by the step at the place.
-use borrow.Author.Rules.{rules}
 use mathlib.Core.Path.{sym, ◌∙◌}
 use Rattle.files.proofs.Taking.{ends-here, goes_on}
 use Rattle.files.proofs.row.ends_at.Goals as goal

@@ -1,5 +1,4 @@
 -- `row::first_four` meets its contract: each field is past those before it.
-use borrow.Author.Rules.{rules}
 use Rattle.files.proofs.Taking.{opened-by}
 use Rattle.files.proofs.row.first_four.Goals as goal
 

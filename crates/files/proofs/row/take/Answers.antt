@@ -1,5 +1,4 @@
 -- `row::take` meets its contract, by the step at the place.
-use borrow.Author.Rules.{rules}
 use mathlib.Core.Path.{sym, ◌∙◌}
 use Rattle.fields.proofs.Steps.{ended}
 use Rattle.files.proofs.Taking.{taken_none, taken-some}

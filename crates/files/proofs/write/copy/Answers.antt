@@ -1,9 +1,7 @@
 -- `write::copy` meets its contract. The loop's invariant: the bytes passed are copied.
-use borrow.Author.Rules.{rules}
 use native.Mathlib.Omega.{arith}
-use Prim.Native.Nat.{◌-◌, ◌≤◌}
-use mathlib.Core.Path.{◌≡◌, refl, ap, ◌∙◌}
-use lib.ListN.{length, take, length-set}
+use mathlib.Core.Path.{refl, ap, ◌∙◌}
+use lib.ListN.{length-set}
 use lib.Seq.{sets, take_all}
 use Rattle.files.proofs.WrittenLemmas.{copied_more}
 use Rattle.files.proofs.write.copy.Goals as goal

@@ -1,5 +1,4 @@
 -- `write::put_field` meets its contract: three bytes, and the value behind them.
-use borrow.Author.Rules.{rules}
 use native.Mathlib.Omega.{arith}
 use Prim.Native.Nat.{◌/◌, ◌%◌}
 use mathlib.Core.Path.{◌∙◌}

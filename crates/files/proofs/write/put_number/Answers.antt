@@ -1,5 +1,4 @@
 -- `write::put_number` meets its contract: two stores are a run of two.
-use borrow.Author.Rules.{rules}
 use native.Mathlib.Numerals.{add-one}
 use native.Mathlib.Omega.{arith}
 use lib.ListN.{length-set}

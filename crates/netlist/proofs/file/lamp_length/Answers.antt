@@ -1,5 +1,4 @@
 -- `file::lamp_length` meets its contract.
-use borrow.Author.Rules.{rules}
 use mathlib.Core.Path.{sym, ap}
 use Rattle.netlist.specs.Inner.Lengths.{lamp_length}
 use Rattle.netlist.proofs.Written.{lamp-longer}

@@ -1,5 +1,4 @@
 -- `file::length_of` meets its contract.
-use borrow.Author.Rules.{rules}
 use native.Mathlib.Omega.{arith}
 use Rattle.netlist.proofs.Written.{lamp-most}
 use Rattle.netlist.proofs.file.length_of.Goals as goal

@@ -1,5 +1,4 @@
 -- `file::put_file` meets its contract: three fields and the lamp's, one after another.
-use borrow.Author.Rules.{rules}
 use Rattle.netlist.proofs.Written.{file-written}
 use Rattle.netlist.proofs.file.put_file.Goals as goal
 

@@ -1,5 +1,4 @@
 -- `file::put_lamp` meets its contract: no bytes have no field.
-use borrow.Author.Rules.{rules}
 use native.Mathlib.Omega.{arith}
 use lib.ListN.{length}
 use Rattle.netlist.proofs.Written.{lamp-longer, none_written, lamp-written}

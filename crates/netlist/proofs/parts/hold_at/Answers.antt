@@ -1,5 +1,4 @@
 -- `parts::hold_at` meets its contract, by what `number_at` ensures.
-use borrow.Author.Rules.{rules}
 use Rattle.netlist.proofs.parts.hold_at.Goals as goal
 
 pub returns : goal.returns

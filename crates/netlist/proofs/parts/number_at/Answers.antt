@@ -1,5 +1,4 @@
 -- `parts::number_at` meets its contract: two bytes make a number below 65,536.
-use borrow.Author.Rules.{rules}
 use native.Mathlib.Omega.{arith}
 use Prim.Native.Nat.{◌+◌}
 use Rattle.netlist.proofs.parts.number_at.Goals as goal

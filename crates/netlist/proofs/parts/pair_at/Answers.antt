@@ -1,5 +1,4 @@
 -- `parts::pair_at` meets its contract, by what `number_at` ensures.
-use borrow.Author.Rules.{rules}
 use Rattle.netlist.proofs.parts.pair_at.Goals as goal
 
 pub returns : goal.returns

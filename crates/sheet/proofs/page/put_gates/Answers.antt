@@ -1,4 +1,4 @@
--- `page::put_gates` meets its contract. The loop's invariant: the rows of the gates passed are written.
+-- `page::put_gates` meets its contract.
 use native.Mathlib.Nat.{zero-add}
 use native.Mathlib.Omega.{arith}
 use mathlib.Core.Path.{refl, sym, ap, ◌∙◌}
@@ -27,7 +27,7 @@ loop-g-preserved c =
     let inv = c.loop-g.invariant in (
       inv.0,
       omega (arith, c.loop-g-test),
-      c.put_next.auto.0 ∙ inv.2,
+      c.put_next.auto.text ∙ inv.2,
       row_more gate_row a.text.now 0 a.line (gate_at a.gates.now) c.loop-g.g inv.3 (sym (zero-add _))
           (gate-row-is _ c.kind_of.ensures c.gate_at-gate.ensures)
           c.put_next.ensures,

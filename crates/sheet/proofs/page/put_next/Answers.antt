@@ -5,4 +5,4 @@ use Rattle.sheet.proofs.page.put_next.Goals as goal
 pub returns : goal.returns
 returns c =
     let a = c.args in
-    next-written a.text.now a a.row c.put_heading_after.ensures c.put_row.ensures
+    next-written a.text.now a.before a.row c.put_heading_after.ensures c.put_row.ensures

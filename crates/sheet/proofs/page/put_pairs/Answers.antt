@@ -1,4 +1,4 @@
--- `page::put_pairs` meets its contract. The loop's invariant: the rows of the pairs passed are written.
+-- `page::put_pairs` meets its contract.
 use native.Mathlib.Nat.{zero-add}
 use native.Mathlib.Omega.{arith}
 use Prim.Native.Nat.{ℕ}
@@ -26,8 +26,8 @@ loop-j-preserved c =
     let j = c.loop-j.j in (
       inv.0,
       omega (arith, c.loop-j-test),
-      c.put_next.auto.0 ∙ inv.2,
-      row_more (pair_row a.kind) a.text.now a 0 (pair_at a.pairs.now) j inv.3 refl
+      c.put_next.auto.text ∙ inv.2,
+      row_more (pair_row a.kind) a.text.now a.before 0 (pair_at a.pairs.now) j inv.3 refl
           (ap (pair_row a.kind j) c.pair_at-pair.ensures ∙ ap (λ (k : ℕ). pair_row a.kind k (pair_at a.pairs.now j)) (sym (zero-add j)))
           c.put_next.ensures,
     )
@@ -36,4 +36,4 @@ pub returns : goal.returns
 unfolding pairs_of
 returns c =
     let a = c.args in
-    c.loop-j.invariant.3 ∙ ap (filled (pair_row a.kind) a.text.now a 0 (pair_at a.pairs.now)) (omega (arith, c.loop-j.invariant, c.loop-j-test))
+    c.loop-j.invariant.3 ∙ ap (filled (pair_row a.kind) a.text.now a.before 0 (pair_at a.pairs.now)) (omega (arith, c.loop-j.invariant, c.loop-j-test))

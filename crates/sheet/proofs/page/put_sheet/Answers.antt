@@ -19,5 +19,5 @@ returns c =
     let few = length_pairs p in
     let second : ◌≡◌ {A = List ℕ} _ (sets _ _ (rows_from _ (numbered_rows output_row 0 (pairs_of p)))) = c.put_pairs.ensures in
     sheet-written (net_with a.n (gates_of g) (pairs_of p) (pairs_of l)) a.text.now some few
-    (rw (some, few, length_pairs l) c.requires.lamp_len_bound.1)
+    (rw (some, few, length_pairs l) c.requires.lamp_in_bounds)
     c.put_heading.ensures c.put_gates.ensures second c.put_pairs-2.ensures

@@ -41,13 +41,17 @@ returns-in_default c =
 
 pub put_sheet-requires : goal.put_sheet-requires
 put_sheet-requires c =
-    let n = counts (open! (goal.at.put_sheet-requires c).After-value-lamp) in
-    ((few-contacts (open! (goal.at.put_sheet-requires c).After-value-lamp), omega (arith, n.2)), (omega (arith, n.1), enough _ _ (room (goal.at.put_sheet-requires c).After-ask_room ∙ c.in-Enough.is)))
+    let o = open! (goal.at.put_sheet-requires c).After-value-lamp in
+    let n = counts o in
+    record {
+      n_bound = (few-contacts o, omega (arith, n.2));
+      lamp_len_bound = omega (arith, n.1);
+      lamp_in_bounds = enough _ _ (room (goal.at.put_sheet-requires c).After-ask_room ∙ c.in-Enough.is);
+    }
 
--- TODO no goal: cast-t22 : tie.Need-overflow-cast-t22
--- TODO no goal: cast-t22 c =
--- TODO no goal:     let length = c.before.before.before.before.before.before.before in
--- TODO no goal:     omega (arith, length.length-of.ensures, (counts (open! length.before)).1)
+pub overflow_cast-result : goal.overflow_cast-result
+overflow_cast-result c =
+    omega (arith, c.length_of-length.ensures, (counts (open! (goal.at.overflow_cast-result c).After-value-lamp)).1)
 
 pub returns : goal.returns
 returns c =

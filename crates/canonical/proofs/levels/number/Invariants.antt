@@ -1,0 +1,19 @@
+-- `levels::number` meets its contract. The loop's invariant: the mentions passed are numbered, and the functions first mentioned among
+-- them are listed, at most eight.
+use Prim.Native.Nat.{◌-◌, ◌≤◌}
+use mathlib.Core.Path.{◌≡◌}
+use lib.ListN.{length}
+use lib.Seq.{sets}
+use Rattle.fields.specs.Bounded.{listed}
+use Rattle.canonical.proofs.Numbering.{number, Entered}
+use Rattle.canonical.proofs.levels.number.Given as goal
+
+abbrev pub invariant-loop-k : goal.invariant-loop-k
+invariant-loop-k l =
+    (l.k ≤ l.count)
+    × (length l.file ≡ length l.initial.file)
+    × Entered l.truths l.left l.mentions l.k l.width l.firsts
+    × (l.file ≡ sets l.initial.file l.at (listed (number l.truths l.left l.mentions l.count) l.k 0))
+
+abbrev pub decreases-loop-k : goal.decreases-loop-k
+decreases-loop-k l = l.count - l.k
