@@ -1,5 +1,6 @@
 // What the services answer C, and the promises about all of them.
 #![tactic(auto)]
+
 ghost use Rattle.std.specs.Prelude.{◌≡◌};
 ghost use Rattle.answers.specs.Answers.{way_number};
 
