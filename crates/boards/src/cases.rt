@@ -23,64 +23,66 @@
 //     n NAME: COUNT / ROOM / FROM / TO                          the same, of a row of so many gates, from a line to before another
 use crate::probes;
 use listings::netlists;
+use std::io;
+use std::io::Write;
 use text::{print, spelling};
 use views::{drawings, rows, rules, runs, sheets, steps, tables};
 
-pub fn show_all(text: &[u8]) {
+pub fn show_all<W: Write>(out: &mut W, text: &[u8]) -> io::Result<()> {
     let mut at = 0;
     while at < text.len() {
         let end = spelling::find(text, at, b'\n');
-        show_line(&text[at..end]);
+        show_line(out, &text[at..end])?;
         if end == text.len() {
-            return;
+            return Ok(());
         }
         at = end + 1;
     }
+    Ok(())
 }
 
-fn show_line(line: &[u8]) {
+fn show_line<W: Write>(out: &mut W, line: &[u8]) -> io::Result<()> {
     let kind = fields::byte(line, 0);
     if kind == b'#' {
-        return;
+        return Ok(());
     }
     if 1 < line.len() {
         let colon = spelling::find(line, 2, b':');
-        print::text(&line[2..colon]);
+        print::text(out, &line[2..colon])?;
         let mut case = [0u8; 1024];
         if spelling::spell(&line[colon..], &mut case) {
-            show_spelt(kind, &case);
-            return;
+            return show_spelt(out, kind, &case);
         }
     }
-    print::text(b": misspelt\n");
+    print::text(out, b": misspelt\n")
 }
 
-fn show_spelt(kind: u8, case: &[u8; 1024]) {
-    show(kind, case);
-    print::text(b"\n");
+fn show_spelt<W: Write>(out: &mut W, kind: u8, case: &[u8; 1024]) -> io::Result<()> {
+    show(out, kind, case)?;
+    print::text(out, b"\n")
 }
 
-fn show(kind: u8, case: &[u8]) {
+fn show<W: Write>(out: &mut W, kind: u8, case: &[u8]) -> io::Result<()> {
     let file = reader::nth(case, 0);
     match kind {
-        b'f' => rows::show(file),
-        b't' => tables::show(file),
-        b'a' => tables::show_twins(file),
-        b'i' => tables::show_at(file, case),
-        b'd' => drawings::show(file, case),
-        b'w' => drawings::show_row(case),
-        b'e' => rules::show(file, case),
-        b'b' => netlists::show(file),
-        b'k' => netlists::show_kept(file, case),
-        b'l' => netlists::show_with_lamp(file),
-        b'm' => netlists::show_kept_with_lamp(file, case),
-        b'r' => runs::show(file, case),
-        b'g' => runs::show_row(case),
-        b'c' => steps::show(file, case),
-        b'h' => steps::show_row(case),
-        b'p' => probes::show(file, case),
-        b's' => sheets::show(file, case),
-        b'n' => sheets::show_row(case),
-        _ => print::text(b": of no kind"),
+        b'f' => rows::show(out, file),
+        b't' => tables::show(out, file),
+        b'a' => tables::show_twins(out, file),
+        b'i' => tables::show_at(out, file, case),
+        b'd' => drawings::show(out, file, case),
+        b'w' => drawings::show_row(out, case),
+        b'e' => rules::show(out, file, case),
+        b'b' => netlists::show(out, file),
+        b'k' => netlists::show_kept(out, file, case),
+        b'l' => netlists::show_with_lamp(out, file),
+        b'm' => netlists::show_kept_with_lamp(out, file, case),
+        b'r' => runs::show(out, file, case),
+        b'g' => runs::show_row(out, case),
+        b'c' => steps::show(out, file, case),
+        b'h' => steps::show_row(out, case),
+        b'p' => probes::show(out, file, case),
+        b's' => sheets::show(out, file, case),
+        b'n' => sheets::show_row(out, case),
+        _ => print::text(out, b": of no kind"),
     }
 }

@@ -1,16 +1,20 @@
 // Shows the cases that stand on standard input, one on each line: what a service makes of each.
 #![tactic(auto)]
+
 mod cases;
 mod probes;
 
-use libc::STDIN_FILENO;
+use std::io;
+use std::io::{BufWriter, Read, Write};
 use text::print;
 
-fn main() {
-    let mut text = io::large_buffer();
-    let len = io::read_full(STDIN_FILENO, &mut text);
-    cases::show_all(&text[..len]);
-    if len == 65536 {
-        print::text(b"too long\n");
+fn main(rt: HostRuntime) -> io::Result<()> {
+    let mut text = Vec::new(rt.alloc());
+    rt.reader().take(65536).read_to_end(&mut text)?;
+    let mut out = BufWriter::new(rt.alloc(), io::writer(&rt))?;
+    cases::show_all(&mut out, &text)?;
+    if text.len() == 65536 {
+        print::text(&mut out, b"too long\n")?;
     }
+    out.flush()
 }

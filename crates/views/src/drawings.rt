@@ -1,41 +1,49 @@
 // The number that a drawing gets and the length of its table; then the lent bytes, points where nothing is written.
-ghost use Rattle.std.specs.Prelude.{◌≤◌, length};
+ghost use Rattle.std.specs.Prelude.{◌≤◌, length, IfOk};
 
 use files::Written;
+use std::io;
+use std::io::Write;
 use text::{print, spelling};
 
 // The table of a drawing.
-pub fn show(drawing: &[u8], case: &[u8]) {
-    let room = spelling::number(case, 1, 244);
+pub fn show<W: Write>(out: &mut W, drawing: &[u8], case: &[u8]) -> io::Result<()> {
+    let room = spelling::number(out, case, 1, 244)?;
     let mut lent = [b'.'; 10610];
     let written = truths::from_drawing(drawing, &mut lent[0..room]);
-    show_table(written, &lent, room);
+    show_table(out, written, &lent, room)
 }
 
 // What was returned, and the lent bytes, so many.
-pub fn show_table(written: Written, lent: &[u8; 10610], room: usize) {
+pub fn show_table<W: Write>(
+    out: &mut W,
+    written: Written,
+    lent: &[u8; 10610],
+    room: usize,
+) -> io::Result<()> {
     print::form(
+        out,
         b": %, bytes %",
         written.refusal as usize,
         written.length as usize,
         0,
-    );
-    print::signs(b", table ", lent, 0, room);
+    )?;
+    print::signs(out, b", table ", lent, 0, room)
 }
 
 // That of a row of nodes.
-pub fn show_row(case: &[u8]) {
+pub fn show_row<W: Write>(out: &mut W, case: &[u8]) -> io::Result<()> {
     let mut file = [0u8; 623];
-    let len = put_row(case, &mut file);
-    show(&file[0..len], case);
+    let len = put_row(out, case, &mut file)?;
+    show(out, &file[0..len], case)
 }
 
 // Writes a drawing with twelve contacts, one output, the last number, and so many nodes of three bytes 0, which lead to the constant 0,
 // over bytes 0; returns its length. The case's first part says how many nodes.
-fn put_row(case: &[u8], file: &mut [u8; 623]) -> usize
-    ensures { result ≤ length file.new }
+fn put_row<W: Write>(out: &mut W, case: &[u8], file: &mut [u8; 623]) -> io::Result<usize>
+    ensures { IfOk result (λ n. n ≤ length file.new) }
 {
-    let count = spelling::number(case, 0, 205);
+    let count = spelling::number(out, case, 0, 205)?;
     let node_bytes = 3 * count;
     file[8] = 7;
     file[9] = (node_bytes / 256) as u8;
@@ -43,5 +51,5 @@ fn put_row(case: &[u8], file: &mut [u8; 623]) -> usize
     files::put_field(file, 0, 1, b"\x0c");
     let output = [(count + 1) as u8];
     files::put_field(file, 4, 2, &output);
-    11 + node_bytes
+    Ok(11 + node_bytes)
 }

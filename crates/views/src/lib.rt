@@ -1,5 +1,6 @@
 // What a case shows of files, tables, drawings, rule sheets, runs, steps and sheets.
 #![tactic(auto)]
+
 pub mod drawings;
 pub mod rows;
 pub mod rules;

@@ -1,13 +1,15 @@
 // The number that a run gets, what is left in the first lent buffer from a place on, every line's value from line 0 up, and in the
 // second, every output's pair and the lamp's.
-ghost use Rattle.std.specs.Prelude.{◌≤◌, length};
+ghost use Rattle.std.specs.Prelude.{◌≤◌, length, IfOk};
 
+use std::io;
+use std::io::Write;
 use text::{print, spelling};
 
 // A run of a netlist with what else the case says.
-pub fn show(netlist: &[u8], case: &[u8]) {
-    let lines_len = spelling::number(case, 1, 10610);
-    let pairs_len = spelling::number(case, 5, 10610);
+pub fn show<W: Write>(out: &mut W, netlist: &[u8], case: &[u8]) -> io::Result<()> {
+    let lines_len = spelling::number(out, case, 1, 10610)?;
+    let pairs_len = spelling::number(out, case, 5, 10610)?;
     let mut lines = [b'.'; 10610];
     let mut pairs = [b'.'; 10610];
     let refusal = run::run(
@@ -17,25 +19,25 @@ pub fn show(netlist: &[u8], case: &[u8]) {
         &mut lines[0..lines_len],
         &mut pairs[0..pairs_len],
     );
-    let from = spelling::number(case, 2, 10610);
-    print::form(b": %", refusal as usize, 0, 0);
-    print::signs(b", lines ", &lines, from, lines_len);
-    print::signs(b", pairs ", &pairs, 0, pairs_len);
+    let from = spelling::number(out, case, 2, 10610)?;
+    print::form(out, b": %", refusal as usize, 0, 0)?;
+    print::signs(out, b", lines ", &lines, from, lines_len)?;
+    print::signs(out, b", pairs ", &pairs, 0, pairs_len)
 }
 
 // A run of a row of gates.
-pub fn show_row(case: &[u8]) {
+pub fn show_row<W: Write>(out: &mut W, case: &[u8]) -> io::Result<()> {
     let mut file = [0u8; 53029];
-    let len = put_row(case, &mut file);
-    show(&file[0..len], case);
+    let len = put_row(out, case, &mut file)?;
+    show(out, &file[0..len], case)
 }
 
 // Writes a netlist with one contact, so many gates of five bytes 0, ANDs of the constant 0, and one output, the last line and the
 // false rail, over bytes 0; returns its length. The case's first part says how many gates.
-pub fn put_row(case: &[u8], file: &mut [u8; 53029]) -> usize
-    ensures { result ≤ length file.new }
+pub fn put_row<W: Write>(out: &mut W, case: &[u8], file: &mut [u8; 53029]) -> io::Result<usize>
+    ensures { IfOk result (λ n. n ≤ length file.new) }
 {
-    let count = spelling::number(case, 0, 10604);
+    let count = spelling::number(out, case, 0, 10604)?;
     let last = 3 + count;
     let gate_bytes = 5 * count;
     file[4] = 4;
@@ -44,5 +46,5 @@ pub fn put_row(case: &[u8], file: &mut [u8; 53029]) -> usize
     files::put_field(file, 0, 1, b"\x01");
     let pair = [(last / 256) as u8, (last % 256) as u8, 0, 3];
     files::put_field(file, 7 + gate_bytes, 5, &pair);
-    14 + gate_bytes
+    Ok(14 + gate_bytes)
 }

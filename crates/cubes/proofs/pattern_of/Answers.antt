@@ -1,4 +1,4 @@
--- `pattern_of` meets its contract. The loop's invariant: the inputs fit the rule by the contacts passed.
+-- `pattern_of` meets its contract.
 use native.Mathlib.Omega.{arith}
 use Prim.Native.Nat.{ℕ, ◌-◌}
 use mathlib.Core.Path.{◌≡◌, refl, ap₂, ◌∙◌}

@@ -1,4 +1,4 @@
--- `words_of` meets its contract. The loop's invariant: the mask and the value are those of the contacts passed.
+-- `words_of` meets its contract.
 use native.Mathlib.Omega.{arith}
 use Prim.Native.Nat.{ℕ, ◌^◌, ◌≤◌}
 use mathlib.Core.Path.{◌≡◌}

@@ -1,0 +1,66 @@
+-- `service::find` meets its contract: the smallest input is searched, and the line values there, or at input 0, are written; those there
+-- are read again behind the file.
+use Prim.Native.Nat.{ℕ, ◌+◌, ◌-◌, ◌/◌}
+use native.Mathlib.Omega.{arith}
+use mathlib.Core.Path.{◌≡◌, sym, ap, ◌∙◌}
+use mathlib.Core.List.{List, [], ◌++◌}
+use lib.ListN.{length, get_or, take, drop}
+use Rattle.netlist.specs.declared.Hold.{Hold}
+use Rattle.netlist.specs.Netlist.{pairs_of, gate_line, hold_at, file_with, net_of}
+use native.Mathlib.Nat.{add-zero}
+use Rattle.netlist.proofs.Written.{length-file}
+use Rattle.files.specs.Room.{over}
+use Rattle.faults.specs.Betrayal.{stuck_at}
+use Rattle.batches.specs.Inner.Batches.{hold_of}
+use Rattle.search.specs.Inner.Found.{found_in}
+use Rattle.stuck.specs.Service.{found_at}
+use Rattle.probe.proofs.Findings.{read_behind, length-lines, betrayed-at, answer-seen, answer-hidden}
+use Rattle.probe.proofs.service.find.Goals.{After-search}
+use Rattle.probe.proofs.service.find.Goals as goal
+
+-- The search's answer.
+searched : (c : After-search) → c.search.result ≡ found_in (net_of c.args.n c.args.gates.now c.args.pairs.now) (hold_at c.args.hold.now 0)
+searched c =
+    let a = c.args in
+    c.search.ensures
+    ∙ ap (λ (line : ℕ). found_in (net_of a.n a.gates.now a.pairs.now) (hold_of line (get_or a.hold.now 2 0))) c.number_at-line.ensures
+
+-- The bytes behind a file are the line values that were written there.
+module _ (n : ℕ) (gates pairs : List ℕ) (h : Hold) (input : ℕ) where
+  abbrev values : List ℕ
+  values = stuck_at (net_of n gates pairs) h input
+
+  part : (at : ℕ) (before : List ℕ) {after : List ℕ} → at ≡ 10 + length gates + length pairs →
+      after ≡ over (file_with n gates pairs [] ++ values) before → take (at + (gate_line n + length gates / 5) - at) (drop at after) ≡ values
+  part at before e w =
+      let count = gate_line n + length gates / 5 in
+      let lines = length-lines n gates pairs h input in
+      ap (λ (l : List ℕ). take (at + count - at) (drop at l)) w
+      ∙ read_behind (file_with n gates pairs []) values before at (at + count - at) (length-file n gates pairs [] ∙ add-zero _ ∙ sym e) (omega arith)
+
+pub returns-in_default : goal.returns-in_default
+returns-in_default c =
+    answer-hidden _ _ _ c.args.buffer.now (sym c.in_default.is ∙ searched (goal.at.returns-in_default c).After-search)
+    c.hidden.ensures
+    c.write_at.ensures.buffer_after
+
+pub name_output-requires : goal.name_output-requires
+name_output-requires c =
+    let a = c.args in
+    let h = hold_at a.hold.now 0 in
+    let w = c.write_at-start in
+    let shown = part a.n a.gates.now a.pairs.now h c.in-At.input w.result a.buffer.now w.ensures.value w.ensures.buffer_after in
+    let count = length-lines a.n a.gates.now a.pairs.now h c.in-At.input in record {
+      pairs_value = (rw (shown, count) c.requires.searchable.paired, c.requires.writable.bytes.1);
+      lines_value = rw shown (betrayed-at (net_of a.n a.gates.now a.pairs.now) h c.in-At.input
+          (sym c.in-At.is ∙ searched (goal.at.name_output-requires c).After-search));
+    }
+
+pub returns : goal.returns
+returns c =
+    let a = c.args in
+    let w = c.write_at-start in
+    let shown = part a.n a.gates.now a.pairs.now (hold_at a.hold.now 0) c.in-At.input w.result a.buffer.now w.ensures.value w.ensures.buffer_after in
+    answer-seen _ _ _ a.buffer.now c.in-At.input (sym c.in-At.is ∙ searched (goal.at.returns c).After-search)
+    (c.name_output.ensures ∙ ap (found_at (pairs_of a.pairs.now) c.in-At.input) shown)
+    c.write_at-start.ensures.buffer_after
