@@ -1,5 +1,6 @@
 // The services for C. include/pilgodur.h has their prototypes; a byte string is a pointer and then a length there.
 #![tactic(auto)]
+
 ghost use Rattle.std.specs.Prelude.{◌≡◌};
 ghost use Rattle.table.specs.Table.{reading_of};
 ghost use Rattle.simulation.specs.Service.{run_of, step_of};
