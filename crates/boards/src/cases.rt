@@ -26,7 +26,7 @@ use listings::netlists;
 use std::io;
 use std::io::Write;
 use text::{print, spelling};
-use views::{drawings, rows, rules, runs, sheets, steps, tables};
+use views::{drawings, field_rows, rules, runs, sheets, steps, tables};
 
 pub fn show_all<W: Write>(out: &mut W, text: &[u8]) -> io::Result<()> {
     let mut at = 0;
@@ -65,7 +65,7 @@ fn show_spelt<W: Write>(out: &mut W, kind: u8, case: &[u8; 1024]) -> io::Result<
 fn show<W: Write>(out: &mut W, kind: u8, case: &[u8]) -> io::Result<()> {
     let file = reader::nth(case, 0);
     match kind {
-        b'f' => rows::show(out, file),
+        b'f' => field_rows::show(out, file),
         b't' => tables::show(out, file),
         b'a' => tables::show_twins(out, file),
         b'i' => tables::show_at(out, file, case),

@@ -2,7 +2,7 @@
 #![tactic(auto)]
 
 pub mod drawings;
-pub mod rows;
+pub mod field_rows;
 pub mod rules;
 pub mod runs;
 pub mod sheets;

@@ -1,7 +1,7 @@
 -- A step goes forward, so that less of the file is left.
 use Rattle.std.proofs.Common.{arith, sym, ◌∙◌}
 use Rattle.fields.proofs.Steps.{stands}
-use Rattle.views.proofs.rows.walk.Goals as goal
+use Rattle.views.proofs.field_rows.walk.Goals as goal
 
 pub loop-field-smaller : goal.loop-field-smaller
 loop-field-smaller g c =
