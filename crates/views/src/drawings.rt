@@ -1,5 +1,5 @@
 // The number that a drawing gets and the length of its table; then the lent bytes, points where nothing is written.
-ghost use Rattle.std.specs.Prelude.{◌≤◌, length, IfOk};
+ghost use Rattle.std.specs.Prelude.{◌≡◌, ◌≤◌, length, IfOk, OnErr};
 
 use files::Written;
 use std::io;
@@ -41,7 +41,8 @@ pub fn show_row<W: Write>(out: &mut W, case: &[u8]) -> io::Result<()> {
 // Writes a drawing with twelve contacts, one output, the last number, and so many nodes of three bytes 0, which lead to the constant 0,
 // over bytes 0; returns its length. The case's first part says how many nodes.
 fn put_row<W: Write>(out: &mut W, case: &[u8], file: &mut [u8; 623]) -> io::Result<usize>
-    ensures { IfOk result (λ n. n ≤ length file.new) }
+    ensures ok { IfOk result (λ n. n ≤ length file.new) }
+    ensures err { OnErr result (file.new ≡ file.old) }
 {
     let count = spelling::number(out, case, 0, 205)?;
     let node_bytes = 3 * count;

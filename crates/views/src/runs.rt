@@ -1,6 +1,6 @@
 // The number that a run gets, what is left in the first lent buffer from a place on, every line's value from line 0 up, and in the
 // second, every output's pair and the lamp's.
-ghost use Rattle.std.specs.Prelude.{◌≤◌, length, IfOk};
+ghost use Rattle.std.specs.Prelude.{◌≡◌, ◌≤◌, length, IfOk, OnErr};
 
 use std::io;
 use std::io::Write;
@@ -35,7 +35,8 @@ pub fn show_row<W: Write>(out: &mut W, case: &[u8]) -> io::Result<()> {
 // Writes a netlist with one contact, so many gates of five bytes 0, ANDs of the constant 0, and one output, the last line and the
 // false rail, over bytes 0; returns its length. The case's first part says how many gates.
 pub fn put_row<W: Write>(out: &mut W, case: &[u8], file: &mut [u8; 53029]) -> io::Result<usize>
-    ensures { IfOk result (λ n. n ≤ length file.new) }
+    ensures ok { IfOk result (λ n. n ≤ length file.new) }
+    ensures err { OnErr result (file.new ≡ file.old) }
 {
     let count = spelling::number(out, case, 0, 10604)?;
     let last = 3 + count;

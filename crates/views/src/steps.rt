@@ -1,6 +1,6 @@
 // The number that a step gets, its place out, and what is left in the two lent buffers, the lines' and the pairs', also where the
 // step is refused.
-ghost use Rattle.std.specs.Prelude.{◌≤◌, length, IfOk};
+ghost use Rattle.std.specs.Prelude.{◌≡◌, ◌≤◌, length, IfOk, OnErr};
 
 use crate::runs;
 use run::Stepped;
@@ -80,7 +80,8 @@ fn show_place<W: Write>(out: &mut W, stepped: Stepped) -> io::Result<()> {
 
 // Copies a part to a buffer's start and returns its length.
 fn lend<W: Write>(out: &mut W, part: &[u8], buffer: &mut [u8; 1024]) -> io::Result<usize>
-    ensures { IfOk result (λ n. (n ≤ 1024) × (n ≤ length buffer.new)) }
+    ensures ok { IfOk result (λ n. (n ≤ 1024) × (n ≤ length buffer.new)) }
+    ensures err { OnErr result (buffer.new ≡ buffer.old) }
 {
     if 1024 < part.len() {
         print::text(out, b": too large")?;
