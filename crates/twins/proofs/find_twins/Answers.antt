@@ -47,9 +47,6 @@ returns-then-earlier-later c d h =
 pub overflow_add-compared : goal.overflow_add-compared
 overflow_add-compared c = omega (arith, c.loop-later.invariant.2)
 
--- TODO no goal: add-later : tie.Need-overflow-add-later invariant-loop2 decreases-loop2 invariant-loop decreases-loop
--- TODO no goal: add-later c = omega (arith, c.before.before.before.loop2.invariant.2)
-
 pub loop-later-preserved : goal.loop-later-preserved
 loop-later-preserved c =
     let inv = c.loop-later.invariant in (
@@ -58,9 +55,6 @@ loop-later-preserved c =
       (inv.2.0, inv.2.1, omega (arith, inv.2)),
       λ d h. passed-node d (inv.3 d h) (lent_none d h _ _ c.first_like-earlier.ensures c.if-earlier-later.false),
     )
-
--- TODO no goal: add-level : tie.Need-overflow-add-level invariant-loop2 decreases-loop2 invariant-loop decreases-loop
--- TODO no goal: add-level c = omega (arith, c.before.loop2.invariant.2)
 
 pub loop-level-preserved : goal.loop-level-preserved
 loop-level-preserved c =

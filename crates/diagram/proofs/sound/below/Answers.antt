@@ -8,11 +8,6 @@ use Rattle.diagram.proofs.sound.below.Goals as goal
 pub loop-k-init : goal.loop-k-init
 loop-k-init c = (omega arith, all_none _)
 
--- TODO no goal: cast-if1 : tie.Need-overflow-cast-if1 invariant-loop decreases-loop
--- TODO no goal: cast-if1 c =
--- TODO no goal:     let before = c.before.before in
--- TODO no goal:     omega (arith, c.shared-slice-known.given (before.before.args.from + before.loop.k))
-
 pub returns-then-bound-bytes : goal.returns-then-bound-bytes
 returns-then-bound-bytes c =
     all-broken _ _ _ c.loop-k-test.true (le-ltb _ _ c.if-bound-bytes.true)

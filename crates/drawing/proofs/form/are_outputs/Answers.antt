@@ -8,9 +8,6 @@ use Rattle.drawing.proofs.form.are_outputs.Goals as goal
 pub loop-j-init : goal.loop-j-init
 loop-j-init c = (omega arith, all_none _)
 
--- TODO no goal: cast-if1 : tie.Need-overflow-cast-if1 invariant-loop decreases-loop
--- TODO no goal: cast-if1 c = omega (arith, c.shared-slice-known.given c.before.before.loop.j)
-
 pub returns-then-numbers-outputs : goal.returns-then-numbers-outputs
 returns-then-numbers-outputs c =
     all-broken _ _ _ c.loop-j-test.true (le-ltb _ _ c.if-numbers-outputs.true)
