@@ -1,9 +1,13 @@
 -- Rails that have not arrived. A value is low (0), high (1) or not yet (2), in the field an unknown value.
-use Rattle.std.specs.Prelude.{ℕ, Bool, true, false, ◌&&◌, cond, List, [], ◌∷◌, eqb, get_or}
+use Rattle.std.specs.Prelude.{ℕ, ◌-◌, Bool, true, false, ◌&&◌, cond, List, [], ◌∷◌, leb, eqb, get_or, take, drop}
 use Rattle.fields.specs.Bounded.{listed}
 use Rattle.netlist.specs.declared.Hold.{Hold}
 use Rattle.netlist.specs.Netlist.{Netlist, line_count}
-use Rattle.simulation.specs.Run.{values_of}
+use Rattle.simulation.specs.Run.{holding, drivers_of, work_out, values_of}
+
+-- Whether a byte is a value: low (0), high (1) or not yet (2).
+abbrev pub is_value : List ℕ → ℕ → Bool
+is_value bytes i = leb (get_or bytes i 0) 2
 
 -- Whether a test passes for every way in which values could arrive: each that is not yet, by itself, as 0 or as 1.
 unfoldable pub every_arrival : List ℕ → (List ℕ → Bool) → Bool
@@ -25,3 +29,9 @@ settled_lines every_way count =
 unfoldable pub late_values_of : Netlist → List ℕ → List Hold → List ℕ
 late_values_of net rails holds =
     settled_lines (λ passes. every_arrival rails (λ arrived. passes (values_of net arrived holds))) (line_count net)
+
+-- Every line's value up to where a step ends, once rails and earlier lines have arrived: the earlier lines, then as many from the
+-- place on as the step is told, or all that are left if these are fewer.
+abbrev pub arrived_values : Netlist → List ℕ → List Hold → ℕ → ℕ → List ℕ → List ℕ
+arrived_values net rails holds place count before =
+    work_out (holding holds) (take count (drop (place - 2) (drivers_of rails net.gates))) before

@@ -1,4 +1,4 @@
-// Text, numbers and bytes, written to where the caller says.
+// Text, numbers and bytes, written to where the caller says. An error is that of the writing.
 use crate::spelling;
 use std::io;
 use std::io::Write;

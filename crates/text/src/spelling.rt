@@ -104,7 +104,8 @@ fn put_length(case: &mut [u8; 1024], start: usize, end: usize)
     case[start + 2] = (len % 256) as u8;
 }
 
-// The number that the digits of a case's part are, which is to be below a bound.
+// The number that the digits of a case's part are, which is to be below a bound. An error is that of the writing, and comes only
+// where the number is too large; then nothing but `out` has changed.
 pub fn number<W: Write>(out: &mut W, case: &[u8], part: usize, bound: usize) -> io::Result<usize>
     requires { 0 < bound }
     ensures { IfOk result (λ n. n < bound) }

@@ -54,7 +54,9 @@ fn step<W: Write>(
     case: &[u8],
     lines: &mut [u8],
     pairs: &mut [u8],
-) -> io::Result<Stepped> {
+) -> io::Result<Stepped>
+    ensures { OnErr result ((lines.new ≡ lines.old) × (pairs.new ≡ pairs.old)) }
+{
     let place = spelling::number(out, case, 1, 4_294_967_296)? as u32;
     let count = spelling::number(out, case, 2, 4_294_967_296)? as u32;
     Ok(run::step(

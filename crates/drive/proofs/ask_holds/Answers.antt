@@ -8,22 +8,18 @@ use Rattle.drive.specs.Questions.{are_ordered}
 use Rattle.drive.proofs.Tests.{disordered, one_more, rank-next}
 use Rattle.drive.proofs.ask_holds.Goals as goal
 
--- src/lib.rt:69:9
 pub returns-then-holds-ne0 : goal.returns-then-holds-ne0
 unfolding are_ordered
 returns-then-holds-ne0 c = simp (ne_eqb _ _ c.if-holds-ne0.true)
 
--- src/lib.rt:72:5
 pub loop-i-init : goal.loop-i-init
 loop-i-init c = (refl, omega arith, refl, all_none _)
 
--- src/lib.rt:75:13
 pub returns-then-not-is_hold : goal.returns-then-not-is_hold
 returns-then-not-is_hold c =
     let inv = c.loop-i.invariant in
     disordered _ _ _ _ inv.2 c.hold_at-hold.ensures (omega arith) (sym c.is_hold.ensures ∙ c.if-not-is_hold.true)
 
--- src/lib.rt:72:5
 pub loop-i-preserved : goal.loop-i-preserved
 loop-i-preserved c =
     let a = c.args in
@@ -34,7 +30,6 @@ loop-i-preserved c =
       one_more _ _ _ _ inv.2 c.hold_at-hold.ensures inv.3 (sym c.is_hold.ensures ∙ c.if-not-is_hold.false),
     )
 
--- src/lib.rt:65:1
 pub returns : goal.returns
 unfolding are_ordered
 returns c =
