@@ -1,16 +1,14 @@
--- `evaluate::word` meets its contract. The loop's invariant: `word` is that of the outputs passed, each a byte, so that the sum fits.
+-- `Diagram::word` meets its contract. The loop's invariant: `word` is that of the outputs passed, each a byte, so that the sum fits.
 use native.Mathlib.Omega.{arith}
 use native.Mathlib.Nat.{le_antisymm, mul-le-mul_right, pow-le-pow_right}
 use native.Mathlib.Numerals.{add-one}
 use Prim.Native.Nat.{ℕ, ◌+◌, ◌*◌, ◌%◌, ◌^◌, ◌≤◌, ◌<◌}
 use mathlib.Core.Path.{◌≡◌, refl}
-use mathlib.Core.List.{List}
 use lib.ListN.{get_or}
 use lib.Pow.{shl_exact}
 use Rattle.diagram.specs.declared.Diagram.{Diagram}
 use Rattle.diagram.specs.Diagram.{input_of, path, root, value_at, word_of, word_at}
-use Rattle.diagram.specs.Inner.Lent.{HasOutputs}
-use Rattle.diagram.proofs.evaluate.word.Goals as goal
+use Rattle.diagram.proofs.Diagram.word.Goals as goal
 
 -- A byte v, shifted by j and added to the word w of j outputs.
 exact : (v j : ℕ) → v < 256 → j < 8 → v * 2 ^ j % 2 ^ 32 ≡ v * 2 ^ j
@@ -26,29 +24,14 @@ small w v j b h g =
     let p : 2 ^ (j + 1) ≤ 2 ^ 8 = pow-le-pow_right {n = 2} (omega arith) {i = j + 1} {j = 8} (omega arith) in
     omega (arith, grown w v j b g)
 
-one_more : (d : Diagram) (n m a j w v : ℕ) (rs : List ℕ) → d.contacts ≡ n → HasOutputs d m rs → w ≡ word_at d (input_of a) j →
-    v ≡ path d (input_of a) n 0 (get_or rs j 0) → w + v * 2 ^ j ≡ word_at d (input_of a) (j + 1)
+one_more : (d : Diagram) (a j w v : ℕ) → w ≡ word_at d (input_of a) j →
+    v ≡ path d (input_of a) d.contacts 0 (get_or d.roots j 0) → w + v * 2 ^ j ≡ word_at d (input_of a) (j + 1)
 unfolding word_of value_at root
-one_more d n m a j w v rs h g e f = rw (add-one j) (cc g.roots)
+one_more d a j w v e f = rw (add-one j) (cc)
 
 pub loop-j-init : goal.loop-j-init
 unfolding word_of
-loop-j-init c = (omega arith, omega arith, λ d h e g. refl)
-
-pub bounds-roots-j : goal.bounds-roots-j
-bounds-roots-j c = omega (arith, c.requires.2)
-
-pub lead-requires : goal.lead-requires
-lead-requires c = c.requires.0
-
-pub overflow_cast-word : goal.overflow_cast-word
-overflow_cast-word c = omega (arith, c.lead.type_inv)
-
-pub overflow_cast-word-in-loop-j : goal.overflow_cast-word-in-loop-j
-overflow_cast-word-in-loop-j c = omega (arith, c.requires.1)
-
-pub overflow_shl-word : goal.overflow_shl-word
-overflow_shl-word c = omega (arith, c.requires.1)
+loop-j-init c = (omega arith, omega arith, refl)
 
 pub overflow_add-word : goal.overflow_add-word
 overflow_add-word c =
@@ -66,7 +49,7 @@ loop-j-preserved c =
     let e = exact c.lead.result loop.j byte few in (
       omega arith,
       rw e (grown loop.word c.lead.result loop.j byte loop.invariant.1),
-      λ d h f g. rw e (one_more d a.n a.m a.input loop.j loop.word c.lead.result a.roots.now h g (loop.invariant.2 d h f g) (c.lead.ensures d f)),
+      rw e (one_more a.self.now a.input loop.j loop.word c.lead.result loop.invariant.2 c.lead.ensures),
     )
 
 pub returns : goal.returns
