@@ -1,11 +1,10 @@
 -- The search behind question 6: what is known where so many levels and nodes are passed, and what its end says.
 use Prim.Native.Nat.{ℕ, zero, suc, ◌+◌, ◌<◌}
-use native.Mathlib.Nat.{eq-or-lt_of_le, le_of_suc-le-suc, not-suc-le-zero, add-zero}
-use native.Mathlib.Numerals.{add-one}
+use native.Mathlib.Nat.{not-suc-le-zero, add-zero}
 use native.Mathlib.Omega.{arith}
+use borrow.Author.Count.{below_more}
 use mathlib.Core.Path.{◌≡◌, refl, sym, ap, ap₂, ◌∙◌}
 use mathlib.Core.Bool.{Bool, true, false, not, ◌&&◌, ◌||◌}
-use mathlib.Core.Logic.{⊎_elim}
 use Rattle.fields.specs.Bounded.{all, any, least}
 use Rattle.fields.proofs.Bounded.{any_at, any-not}
 use Rattle.fields.proofs.Least.{First, least-is, least-below}
@@ -15,10 +14,6 @@ use Rattle.diagram.specs.Questions.{alike, distinct}
 use Rattle.std.specs.Prelude.{Some, None}
 use Rattle.twins.specs.Twins.{repeats, first_pair, total, pairs_among, pairs_before, comparison_of}
 use Rattle.twins.proofs.Totals.{total-more}
-
--- Where none of the numbers below k passes, nor k, none below k + 1 does.
-pub none_more : {p : ℕ → Bool} (k : ℕ) → ((i : ℕ) → i < k → p i ≡ false) → p k ≡ false → (i : ℕ) → i < k + 1 → p i ≡ false
-none_more {p} k h e i l = ⊎_elim (λ q. ap p q ∙ e) (h i) (eq-or-lt_of_le (le_of_suc-le-suc (rw (add-one k) at l)))
 
 -- Every number fails exactly if none passes.
 not-or : (a b : Bool) → (not a && not b) ≡ not (a || b)
@@ -56,7 +51,7 @@ module _ (d : Diagram) where
     passed-node e =
         record {
           levels = s.levels;
-          nodes = none_more v s.nodes e;
+          nodes = below_more _ v s.nodes e;
           count = omega (arith, s.count, total-more v (λ i. i));
         }
 
@@ -64,7 +59,7 @@ module _ (d : Diagram) where
     unfolding total
     passed-level w =
         record {
-          levels = none_more l s.levels (any-not _ (width d l) (rw w at s.nodes));
+          levels = below_more _ l s.levels (any-not _ (width d l) (rw w at s.nodes));
           nodes = λ i h. absurd (not-suc-le-zero h);
           count = s.count ∙ rw w (sym (total-more l (λ i. pairs_among (width d i))) ∙ sym (add-zero _));
         }
