@@ -14,7 +14,7 @@ use Rattle.netlist.proofs.Sound.{Bounds}
 use Rattle.std.specs.Prelude.{Some, None}
 use Rattle.wiring.specs.declared.sound.Wiring.{Wiring}
 use Rattle.wiring.specs.declared.sound.Wiring.TheVariants.{Sound, Unsound}
-use Rattle.wiring.specs.declared.form.Parts.{Parts}
+use Rattle.wiring.specs.declared.parts.Parts.{Parts}
 use Rattle.wiring.specs.Questions.{form_of, are_gates, are_pairs, is_sound, wiring_of, wiring_number, netlist_of, netlist_refusal}
 use Rattle.wiring.specs.Inner.Read.{PartsOf}
 use Rattle.wiring.proofs.Accepted.{accepted}

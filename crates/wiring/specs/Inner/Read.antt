@@ -2,7 +2,7 @@
 use Rattle.std.specs.Prelude.{ℕ, ◌≡◌, Option, Some, None, List}
 use Rattle.fields.specs.Fields.{fields_of, value_in}
 use Rattle.files.specs.Header.{contacts_of}
-use Rattle.wiring.specs.declared.form.Parts.{Parts}
+use Rattle.wiring.specs.declared.parts.Parts.{Parts}
 
 -- The contacts of its parts, if it has them.
 abbrev pub contacts_by : Option Parts → Option ℕ
