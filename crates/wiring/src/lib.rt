@@ -5,6 +5,6 @@ mod form;
 mod reading;
 mod sound;
 
-pub use form::{Form, ask_form};
-pub use reading::{Parts, read};
+pub use form::{Parts, ask_form};
+pub use reading::read;
 pub use sound::{Wiring, ask_wiring};
