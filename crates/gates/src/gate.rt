@@ -1,35 +1,16 @@
 // Gates written one after another, five bytes each.
-ghost use Rattle.std.specs.Prelude.{◌≡◌};
 ghost use Rattle.rules.specs.Make.{gate};
 ghost use Rattle.gates.specs.Inner.Written.{Written, GateRoom};
 
 // A writer of gates: the buffer, the line of the first gate, and the number of gates made so far.
 #[derive(Drop)]
 pub struct Gates<'a> {
-    out: &'a mut [u8],
-    first: usize,
-    made: usize,
+    pub out: &'a mut [u8],
+    pub first: usize,
+    pub made: usize,
 }
 
 impl<'a> Gates<'a> {
-    // A writer to a buffer in which so many gates are made.
-    pub fn new(out: &'a mut [u8], first: usize, made: usize) -> Gates<'a>
-        ensures { result ≡ record { out = out.entry; first = first; made = made } }
-    {
-        Gates {
-            out: out,
-            first: first,
-            made: made,
-        }
-    }
-
-    // The number of gates made so far.
-    pub fn made(&self) -> usize
-        ensures { result ≡ self.now.made }
-    {
-        self.made
-    }
-
     // Makes a gate on the next line: AND (kind 0) or OR (kind 1) of two lines. Returns its line.
     pub fn gate(&mut self, kind: u8, left: u16, right: u16) -> u16
         requires { GateRoom self.old 1 }

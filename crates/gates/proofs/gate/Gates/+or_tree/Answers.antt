@@ -4,6 +4,11 @@ use Rattle.rules.specs.Make.{gate}
 use Rattle.gates.proofs.Trees.{single, joining, left-room, right-room, join-room}
 use Rattle.gates.proofs.gate.Gates.+or_tree.Goals as goal
 
+pub returns : goal.returns
+returns t c =
+    let s = c.split_at.ensures in
+    joining 0 (gate 1) _ _ _ (omega arith) s.front s.back c.or_tree-one.ensures c.or_tree-other.ensures c.gate.ensures
+
 pub returns-then-lines-eq1 : goal.returns-then-lines-eq1
 returns-then-lines-eq1 t c = single 0 (gate 1) c.args.lines.now (omega arith)
 
@@ -25,8 +30,3 @@ pub gate-requires : goal.gate-requires
 gate-requires t c =
     let s = c.split_at.ensures in
     join-room 0 (gate 1) _ _ _ (omega arith) s.front s.back c.requires.1 c.or_tree-one.ensures c.or_tree-other.ensures
-
-pub returns : goal.returns
-returns t c =
-    let s = c.split_at.ensures in
-    joining 0 (gate 1) _ _ _ (omega arith) s.front s.back c.or_tree-one.ensures c.or_tree-other.ensures c.gate.ensures
