@@ -17,7 +17,7 @@ use Rattle.std.specs.Slice.Iter.{chunks_exact_rest, chunks_exact_size, chunks_ex
 use Rattle.std.specs.Iterator.Runs.{Run, SomeRun, EveryRun, IsChunksExactRun, CallKeepsClosure, AnyItemGives, AllItemsGive, IsFirstToGive}
 use Rattle.fields.specs.Bounded.{any, least}
 use Rattle.fields.proofs.Bounded.{any_at, any-not}
-use Rattle.fields.proofs.Least.{least-is, least-none}
+use Rattle.fields.proofs.Least.{least-is}
 
 -- Chunk k of a list.
 record Piece (xs : List ℕ) (k : ℕ) (x : Bor (List ℕ)) : Type 0 where
@@ -53,12 +53,10 @@ module _ (xs : List ℕ) (s : ChunksExact ℕ) (rest : chunks_exact_rest s ≡ x
 
     module _ {F : Type 0} (g : Mut F (Bor (List ℕ) × Unit {0}) Bool) (f : F) (keeps : CallKeepsClosure g f) (t : ℕ → ℕ → Bool)
         (computes : (x : Bor (List ℕ)) (b : Bool) → length x.now ≡ 2 → Called g f (x, tt) b f → b ≡ t (get_or x.now 0 0) (get_or x.now 1 0))
-        (n : ℕ) (two : length xs ≡ 2 * n) where
-      abbrev test : ℕ → Bool
-      test k = t (get_or xs (2 * k) 0) (get_or xs (2 * k + 1) 0)
-
+        (n : ℕ) (two : length xs ≡ 2 * n) (test : ℕ → Bool)
+        (tests : (k : ℕ) → k < n → t (get_or xs (2 * k) 0) (get_or xs (2 * k + 1) 0) ≡ test k) where
       told : {k : ℕ} {x : Bor (List ℕ)} (b : Bool) → Piece xs k x → Called g f (x, tt) b f → test k ≡ b
-      told b c q = sym (computes _ b c.long q ∙ ap₂ t c.first c.second)
+      told {k} b c q = sym (computes _ b c.long q ∙ ap₂ t c.first c.second ∙ tests k (omega (arith, c.within)))
 
       none : (p : Run (chunks_exact_steps {A = ℕ})) → p.from ≡ s → IsTrue p.whole → AllItemsGive p g f false →
           (k : ℕ) → k < n → test k ≡ false
@@ -76,17 +74,19 @@ module _ (xs : List ℕ) (s : ChunksExact ℕ) (rest : chunks_exact_rest s ≡ x
       any-chunk false (p, from, m) = sym (any-not test n (none p from m.0 m.1))
 
       pub first-chunk : (r : Option ℕ) →
-          SomeRun chunks_exact_steps s (λ p. MatchOption r (IsTrue p.whole × AllItemsGive p g f false)
-          (λ i. (p.len ≡ i + 1) × IsFirstToGive p g f true false i)) →
-          unwrap_or r n ≡ least n test
-      first-chunk None (p, from, m) = least-none test (none p from m.0 m.1)
+          SomeRun chunks_exact_steps s (λ p. MatchOption r (IsTrue p.whole × AllItemsGive p g f false) (λ i. (p.len ≡ i + 1) × IsFirstToGive p g f true false i)) →
+          MatchOption r (any n test ≡ false) (λ i. (i < n) × (i ≡ least n test))
+      first-chunk None (p, from, m) = any-not test n (none p from m.0 m.1)
       first-chunk (Some i) (p, from, m) =
           let (hit, misses) = m.1 keeps in
-          let (x, e, c) = item p from i (omega (arith, m.0)) in
-          least-is test (record {
-            below = omega (arith, c.within);
-            passes = told true c (rw e at hit);
-            none = λ k h.
-                let (x, e, c) = item p from k (omega (arith, m.0)) in
-                told false c (rw e at (misses k h));
-          })
+          let (x, e, c) = item p from i (omega (arith, m.0)) in (
+            omega (arith, c.within),
+            least-is test
+            (record {
+              below = omega (arith, c.within);
+              passes = told true c (rw e at hit);
+              none = λ k h.
+                  let (x, e, c) = item p from k (omega (arith, m.0)) in
+                  told false c (rw e at (misses k h));
+            }),
+          )

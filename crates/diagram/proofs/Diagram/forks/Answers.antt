@@ -4,8 +4,7 @@ use Prim.Native.Nat.{ℕ}
 use mathlib.Core.Path.{ap₂, ◌∙◌}
 use mathlib.Core.Bool.{not}
 use lib.Dec.{eqb}
-use Rattle.fields.proofs.Bounded.{any-agree}
-use Rattle.diagram.specs.Diagram.{width, edge_at}
+use Rattle.diagram.specs.Diagram.{width, edge_at, is_fork}
 use Rattle.diagram.proofs.Bytes.{long, zero-edge, one-edge}
 use Rattle.diagram.proofs.Chunks.{any-chunk}
 use Rattle.diagram.proofs.Diagram.forks.Goals as goal
@@ -14,7 +13,8 @@ pub returns : goal.returns
 returns c =
     let d = c.args.self.now in
     let l = c.args.level in
-    any-chunk c.level.result.now _ c.chunks_exact.ensures.rest c.chunks_exact.ensures.size c.chunks_exact.ensures.runs
-    _ _ (λ a r f h. search rules) (λ v w. not (eqb v w)) (λ x b e h. search rules) (width d l) (long (edge_at d l) _ c.level.ensures) c.any.result c.any.ensures.runs
-    ∙ any-agree (width d l) _ _ (λ u h.
-    ap₂ (λ (v w : ℕ). not (eqb v w)) (zero-edge d l u c.level.ensures h) (one-edge d l u c.level.ensures h))
+    let edges = c.level.ensures in
+    any-chunk c.level.result.now _ c.chunks_exact.ensures.rest c.chunks_exact.ensures.size c.chunks_exact.ensures.runs _ _
+    (λ a r f h. search rules) (λ v w. not (eqb v w)) (λ x b e h. search rules)
+    (width d l) (long (edge_at d l) _ edges) (is_fork d l) (λ u h. ap₂ (λ (v w : ℕ). not (eqb v w)) (zero-edge d l u edges h) (one-edge d l u edges h))
+    c.any.result c.any.ensures.runs
