@@ -13,7 +13,7 @@ use Rattle.diagram.specs.declared.sound.Range.TheVariants.{Within, Outside}
 use Rattle.diagram.specs.declared.sound.Numbering.TheVariants.{InTurn, OutOfTurn}
 use Rattle.diagram.specs.Diagram.{width, Input, path, value_at}
 use Rattle.diagram.proofs.Unique.{Reduced}
-use Rattle.twins.specs.declared.Twins.TheVariants.{Absent, Present}
+use Rattle.std.specs.Prelude.{Some, None}
 use Rattle.twins.specs.Twins.{first_pair}
 use Rattle.table.specs.Encode.{bytes_of}
 use Rattle.table.specs.Promises.{Accepted}
@@ -31,8 +31,8 @@ use Rattle.functions.proofs.Trees.{Full, Values, value_from, value-half, whole-v
 passes : (d : Diagram) → Reduced d → diagram_refusal d ≡ 0
 unfolding first_no
 passes d r =
-    sym (diagram-by d Within Absent InTurn (ap (λ (b : Bool). cond b Within Outside) r.ranged)
-    (ap (λ (b : Bool). cond b Absent (Present (first_pair d))) r.differing) (ap (λ (b : Bool). cond b InTurn OutOfTurn) r.counted))
+    sym (diagram-by d Within None InTurn (ap (λ (b : Bool). cond b Within Outside) r.ranged)
+    (ap (λ (b : Bool). cond b None (Some (first_pair d))) r.differing) (ap (λ (b : Bool). cond b InTurn OutOfTurn) r.counted))
 
 module _ (n m : ℕ) (f : ℕ → Function) (s : Limits (canonical n m f)) (full : (j : ℕ) → j < m → Full n (f j)) where
   -- The path from a function's node leads to its value.
