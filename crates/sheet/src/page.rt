@@ -2,12 +2,15 @@
 ghost use Rattle.std.specs.Prelude.{◌≡◌, ◌++◌, ◌+◌, ◌/◌, ◌≤◌, ◌<◌, length};
 ghost use Rattle.std.proofs.lemmas.List.Edits.{sets};
 ghost use Rattle.files.specs.Room.{over};
-ghost use Rattle.netlist.specs.Netlist.{gates_of, pairs_of, gate_line, net_with};
+ghost use Rattle.netlist.specs.Netlist.{gates_of, pairs_of};
+ghost use Rattle.wiring.specs.Inner.Read.{netlist_by};
 ghost use Rattle.sheet.specs.Sheet.{heading, heading_after, row_text, gate_row, pair_row, numbered_rows, rows_from, sheet_of};
-ghost use Rattle.sheet.specs.Inner.Places.{end_of, place_of};
+ghost use Rattle.sheet.specs.Inner.Places.{end_of, place_of, rows_by};
 
 use crate::row;
 use crate::row::{Kind, Row};
+use netlist::{Gate, Pair};
+use wiring::Parts;
 
 // The length of a sheet of so many rows.
 pub fn length_of(rows: usize) -> usize
@@ -30,13 +33,9 @@ fn put_heading_after(text: &mut [u8], before: usize)
     requires { (before < 65536) × (place_of before ≤ length text.old) }
     ensures { text.new ≡ sets text.old (end_of before) (heading_after before) }
 {
-    if before == 0 {
-        return;
+    if before != 0 && before % 50 == 0 {
+        put_heading(text, 22 * (before + before / 50));
     }
-    if before % 50 != 0 {
-        return;
-    }
-    put_heading(text, 22 * (before + before / 50));
 }
 
 // Writes the row that so many rows stand before, below its heading if there is one.
@@ -55,11 +54,11 @@ fn put_gates(text: &mut [u8], line: usize, gates: &[u8])
     ensures { text.new
         ≡ sets text.old (end_of 0) (rows_from 0 (numbered_rows gate_row line (gates_of gates.now))) }
 {
-    for g in 0..gates.len() / 5 {
-        let gate = netlist::gate_at(gates, g);
+    for (g, gate) in gates.as_chunks::<5>().0.iter().enumerate() {
+        let gate = Gate::from(gate);
         let row = Row {
             number: (line + g) as u16,
-            kind: row::kind_of(gate.kind),
+            kind: Kind::from(gate.kind),
             first: gate.left,
             second: gate.right,
         };
@@ -73,8 +72,8 @@ fn put_pairs(text: &mut [u8], before: usize, kind: Kind, pairs: &[u8])
     ensures { text.new
         ≡ sets text.old (end_of before) (rows_from before (numbered_rows (pair_row kind) 0 (pairs_of pairs.now))) }
 {
-    for j in 0..pairs.len() / 4 {
-        let pair = netlist::pair_at(pairs, j);
+    for (j, pair) in pairs.as_chunks::<4>().0.iter().enumerate() {
+        let pair = Pair::from(pair);
         let row = Row {
             number: j as u16,
             kind: kind,
@@ -85,16 +84,22 @@ fn put_pairs(text: &mut [u8], before: usize, kind: Kind, pairs: &[u8])
     }
 }
 
-// Writes the sheet of a netlist of n contacts, given the bytes of its gates, its outputs and its lamp, from the start of a buffer.
-pub fn put_sheet(text: &mut [u8], n: usize, gates: &[u8], outputs: &[u8], lamp: &[u8])
-    requires n_bound { (n ≤ 12) × (gate_line n + length gates.now / 5 < 65536) }
-    requires lamp_len_bound { length gates.now / 5 + length outputs.now / 4 + length lamp.now / 4 < 65536 }
-    requires lamp_in_bounds { end_of (length gates.now / 5 + length outputs.now / 4 + length lamp.now / 4) ≤ length text.old }
-    ensures { text.new
-        ≡ over (sheet_of (net_with n (gates_of gates.now) (pairs_of outputs.now) (pairs_of lamp.now))) text.old }
+// How many rows a netlist's sheet has.
+pub fn rows_of(parts: &Parts<'_>) -> usize
+    ensures { result ≡ rows_by parts.now }
 {
+    parts.gates.len() / 5 + parts.pair_count()
+}
+
+// Writes the sheet of a netlist from the start of a buffer.
+pub fn put_sheet(text: &mut [u8], parts: &Parts<'_>)
+    requires { end_of (rows_by parts.now) ≤ length text.old }
+    ensures { text.new ≡ over (sheet_of (netlist_by parts.now)) text.old }
+{
+    let gates = parts.gates.len() / 5;
+    let outputs = parts.outputs.len() / 4;
     put_heading(text, 0);
-    put_gates(text, 2 + 2 * n, gates);
-    put_pairs(text, gates.len() / 5, Kind::Out, outputs);
-    put_pairs(text, gates.len() / 5 + outputs.len() / 4, Kind::Lamp, lamp);
+    put_gates(text, parts.gate_line(), parts.gates);
+    put_pairs(text, gates, Kind::Out, parts.outputs);
+    put_pairs(text, gates + outputs, Kind::Lamp, parts.lamp);
 }

@@ -23,10 +23,26 @@ pub struct Row {
 }
 
 // The kind of a gate's row.
-pub fn kind_of(kind: u8) -> Kind
-    ensures { result ≡ kind_of kind }
-{
-    if kind == 0 { Kind::And } else { Kind::Or }
+impl From<u8> for Kind {
+    fn from(kind: u8) -> Self
+        ensures { result ≡ kind_of kind }
+    {
+        if kind == 0 { Kind::And } else { Kind::Or }
+    }
+}
+
+impl Kind {
+    // In three characters, standing left, and a blank behind it.
+    fn text(self) -> &'static [u8; 4]
+        ensures { result.now ≡ kind_column self }
+    {
+        match self {
+            Kind::And => b"AND ",
+            Kind::Or => b"OR  ",
+            Kind::Out => b"OUT ",
+            Kind::Lamp => b"LMP ",
+        }
+    }
 }
 
 // The digit at the place of a power of ten, or a blank before the first digit.
@@ -54,27 +70,13 @@ fn put_decimal(text: &mut [u8], at: usize, x: u16, behind: u8)
     text[at + 5] = behind;
 }
 
-// A kind in three characters, standing left, and a blank behind it.
-fn put_kind(text: &mut [u8], at: usize, kind: Kind)
-    requires { at + 4 ≤ length text.old }
-    ensures { text.new ≡ sets text.old at (kind_column kind) }
-{
-    match kind {
-        Kind::And => files::copy(text, at, b"AND "),
-        Kind::Or => files::copy(text, at, b"OR  "),
-        Kind::Out => files::copy(text, at, b"OUT "),
-        Kind::Lamp => files::copy(text, at, b"LMP "),
-    }
-}
-
 // Writes a row, from a place on.
 pub fn put_row(text: &mut [u8], at: usize, row: Row)
     requires { at + 22 ≤ length text.old }
     ensures { text.new ≡ sets text.old at (row_text row) }
 {
-    let kind = row.kind;
     put_decimal(text, at, row.number, b' ');
-    put_kind(text, at + 6, kind);
+    files::copy(text, at + 6, row.kind.text());
     put_decimal(text, at + 10, row.first, b' ');
     put_decimal(text, at + 16, row.second, b'\n');
 }

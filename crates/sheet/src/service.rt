@@ -1,30 +1,20 @@
 // The service sheet.
 ghost use Rattle.std.specs.Prelude.{◌≡◌};
+ghost use Rattle.files.specs.Room.{written};
 ghost use Rattle.sheet.specs.Service.{sheeting_of};
 
 use crate::page;
-use files::{Room, Written};
+use files::{Refusal, Room};
 
 // Writes a netlist's sheet from the start of the lent buffer and returns its length; a refusal leaves the buffer as it came.
-pub fn sheet(netlist: &[u8], text: &mut [u8]) -> Written
-    ensures { record { refusal = result.refusal; length = result.length; buffer = text.new }
-        ≡ sheeting_of netlist.now text.old }
+pub fn sheet(netlist: &[u8], text: &mut [u8]) -> Result<u32, Refusal>
+    ensures { written result text.new ≡ sheeting_of netlist.now text.old }
 {
-    let parts = wiring::read(netlist);
-    let refusal = parts.refusal;
-    if refusal != 0 {
-        return files::refused(refusal);
-    }
-    let gates = fields::value(netlist, parts.gates);
-    let outputs = fields::value(netlist, parts.outputs);
-    let lamp = fields::value(netlist, parts.lamp);
-    let length = page::length_of(gates.len() / 5 + outputs.len() / 4 + lamp.len() / 4);
+    let parts = wiring::read(netlist)?;
+    let length = page::length_of(page::rows_of(&parts));
     let Room::Enough = files::ask_room(length, text.len()) else {
-        return files::refused(9);
+        return Err(Refusal::Room);
     };
-    page::put_sheet(text, parts.contacts, gates, outputs, lamp);
-    Written {
-        refusal: 0,
-        length: length as u32,
-    }
+    page::put_sheet(text, &parts);
+    Ok(length as u32)
 }

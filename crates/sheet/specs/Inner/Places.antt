@@ -1,8 +1,13 @@
 -- Where rows stand on a sheet, and which sign stands at a place of a number.
-use Rattle.std.specs.Prelude.{ℕ, ◌+◌, ◌-◌, ◌*◌, ◌/◌, ◌%◌, cond, List, ◌++◌, ltb}
+use Rattle.std.specs.Prelude.{ℕ, ◌+◌, ◌-◌, ◌*◌, ◌/◌, ◌%◌, cond, List, ◌++◌, ltb, length}
 use Prim.Native.Char.{code}
+use Rattle.wiring.specs.declared.parts.Parts.{Parts}
 use Rattle.sheet.specs.declared.row.Kind.{Kind}
 use Rattle.sheet.specs.Sheet.{ascii, standing_left, kind_text}
+
+-- How many rows a netlist's sheet has.
+abbrev pub rows_by : Parts → ℕ
+rows_by p = length p.gates.now / 5 + (length p.outputs.now / 4 + length p.lamp.now / 4)
 
 -- Where a sheet of k rows ends, and where the next row stands, below its heading if there is one.
 abbrev pub end_of : ℕ → ℕ

@@ -1,5 +1,4 @@
 -- `page::put_gates` meets its contract. The loop's invariant: the rows of the gates passed are written.
-use Prim.Native.Nat.{◌-◌, ◌/◌, ◌≤◌}
 use mathlib.Core.Path.{◌≡◌}
 use lib.ListN.{length}
 use Rattle.netlist.specs.Netlist.{gate_at}
@@ -8,8 +7,7 @@ use Rattle.sheet.proofs.Pages.{filled}
 use Rattle.sheet.proofs.page.put_gates.Given as goal
 
 abbrev pub invariant-loop-g : goal.invariant-loop-g
-invariant-loop-g l =
-    (l.g-end ≡ length l.gates / 5) × (l.g ≤ l.g-end) × (length l.text ≡ length l.initial.text) × (l.text ≡ filled gate_row l.initial.text 0 l.line (gate_at l.gates) l.g)
-
-abbrev pub decreases-loop-g : goal.decreases-loop-g
-decreases-loop-g l = l.g-end - l.g
+invariant-loop-g l = record {
+  room : length l.text ≡ length l.initial.text;
+  written : l.text ≡ filled gate_row l.initial.text 0 l.line (gate_at l.gates) l.g;
+}
