@@ -36,15 +36,14 @@ pub fn show_all<W: Write>(out: &mut W, text: &[u8]) -> io::Result<()> {
 }
 
 fn show_line<W: Write>(out: &mut W, line: &[u8]) -> io::Result<()> {
-    let kind = fields::byte(line, 0);
-    if kind == b'#' {
+    if let [b'#', ..] = line {
         return Ok(());
     }
-    if 1 < line.len() {
-        let colon = spelling::find(line, 2, b':');
-        out.write_all(&line[2..colon])?;
-        if let Some(case) = spelling::spell(&line[colon..]) {
-            show(out, kind, &case)?;
+    if let [kind, _, rest @ ..] = line {
+        let colon = spelling::find(rest, 0, b':');
+        out.write_all(&rest[..colon])?;
+        if let Some(case) = spelling::spell(&rest[colon..]) {
+            show(out, *kind, &case)?;
             return writeln!(out);
         }
     }

@@ -51,11 +51,9 @@ fn put_row<W: Write>(out: &mut W, case: &[u8], file: &mut [u8; 623]) -> io::Resu
 {
     let count = spelling::number(out, case, 0, 205)?;
     let node_bytes = 3 * count;
+    files::put_field(file, 0, 1, &[12]);
+    files::put_field(file, 4, 2, &[(count + 1) as u8]);
     file[8] = 7;
-    file[9] = (node_bytes / 256) as u8;
-    file[10] = (node_bytes % 256) as u8;
-    files::put_field(file, 0, 1, b"\x0c");
-    let output = [(count + 1) as u8];
-    files::put_field(file, 4, 2, &output);
+    files::put_number(file, 9, node_bytes as u16);
     Ok(11 + node_bytes)
 }

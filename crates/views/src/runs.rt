@@ -45,13 +45,11 @@ pub fn put_row<W: Write>(out: &mut W, case: &[u8], file: &mut [u8; 53029]) -> io
     ensures err { OnErr result (file.new ≡ file.old) }
 {
     let count = spelling::number(out, case, 0, 10604)?;
-    let last = 3 + count;
     let gate_bytes = 5 * count;
+    let [high, low] = (3 + count as u16).to_be_bytes();
+    files::put_field(file, 0, 1, &[1]);
     file[4] = 4;
-    file[5] = (gate_bytes / 256) as u8;
-    file[6] = (gate_bytes % 256) as u8;
-    files::put_field(file, 0, 1, b"\x01");
-    let pair = [(last / 256) as u8, (last % 256) as u8, 0, 3];
-    files::put_field(file, 7 + gate_bytes, 5, &pair);
+    files::put_number(file, 5, gate_bytes as u16);
+    files::put_field(file, 7 + gate_bytes, 5, &[high, low, 0, 3]);
     Ok(14 + gate_bytes)
 }

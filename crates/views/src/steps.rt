@@ -13,10 +13,8 @@ use text::spelling;
 pub fn show<W: Write>(out: &mut W, netlist: &[u8], case: &[u8]) -> io::Result<()> {
     let mut lines = [0u8; 1024];
     let mut pairs = [0u8; 1024];
-    let lines_len = lend(out, reader::nth(case, 3), &mut lines)?;
-    let pairs_len = lend(out, reader::nth(case, 6), &mut pairs)?;
-    let lines = &mut lines[..lines_len];
-    let pairs = &mut pairs[..pairs_len];
+    let lines = lend(out, reader::nth(case, 3), &mut lines)?;
+    let pairs = lend(out, reader::nth(case, 6), &mut pairs)?;
     let stepped = step(out, netlist, case, lines, pairs)?;
     show_place(out, stepped)?;
     write!(out, ", lines {}, pairs {}", Spelt(lines), Spelt(pairs))
@@ -70,15 +68,17 @@ fn show_place<W: Write>(out: &mut W, stepped: Stepped) -> io::Result<()> {
     write!(out, ": {}, place {}", stepped.refusal, stepped.place)
 }
 
-// Copies a part to a buffer's start and returns its length.
-fn lend<W: Write>(out: &mut W, part: &[u8], buffer: &mut [u8; 1024]) -> io::Result<usize>
-    ensures ok { IfOk result (λ n. (n ≤ 1024) × (n ≤ length buffer.new)) }
-    ensures err { OnErr result (buffer.new ≡ buffer.old) }
-{
+// Copies a part to a buffer's start, and lends that.
+fn lend<'a, W: Write>(
+    out: &mut W,
+    part: &[u8],
+    buffer: &'a mut [u8; 1024],
+) -> io::Result<&'a mut [u8]> {
     if 1024 < part.len() {
         write!(out, ": too large")?;
-        return Ok(0);
+        return Ok(&mut buffer[..0]);
     }
-    buffer[..part.len()].copy_from_slice(part);
-    Ok(part.len())
+    let lent = &mut buffer[..part.len()];
+    lent.copy_from_slice(part);
+    Ok(lent)
 }

@@ -14,7 +14,7 @@ use Rattle.netlist.proofs.Sound.{Bounds}
 use Rattle.std.specs.Prelude.{Some, None}
 use Rattle.wiring.specs.declared.sound.Wiring.{Wiring}
 use Rattle.wiring.specs.declared.sound.Wiring.TheVariants.{Sound, Unsound}
-use Rattle.wiring.specs.declared.form.Parts.{Parts}
+use Rattle.wiring.specs.declared.parts.Parts.{Parts}
 use Rattle.wiring.specs.Questions.{form_of, are_gates, are_pairs, is_sound, wiring_of, wiring_number, netlist_of, netlist_refusal}
 use Rattle.wiring.specs.Inner.Read.{PartsOf}
 use Rattle.wiring.proofs.Accepted.{accepted}
@@ -50,12 +50,32 @@ module _ (file : List ℕ) where
   pub opened : {p : Parts} → PartsOf file p → netlist_refusal file ≡ 0 → Opened file p.contacts p.gates.now p.outputs.now p.lamp.now
   opened o z = record { accepted = z; contacts = o.contacts; gates-are = o.gates; outputs-are = o.outputs; lamp-is = o.lamp }
 
+-- What a yes to question 12 says of gates, outputs and lamp.
+module _ (n : ℕ) (gates outputs lamp : List ℕ) (s : is_sound n gates outputs lamp ≡ true) where
+  abbrev lines : ℕ
+  lines = gate_line n + length gates / 5
+
+  abbrev first_two : Bool
+  first_two = are_gates (gate_line n) gates && are_pairs lines outputs
+
+  pub gates-sound : are_gates (gate_line n) gates ≡ true
+  unfolding is_sound
+  gates-sound = and_left _ (are_pairs lines outputs) (and_left first_two (are_pairs lines lamp) s)
+
+  pub outputs-sound : are_pairs (gate_line n + length gates / 5) outputs ≡ true
+  unfolding is_sound
+  outputs-sound = and_right (are_gates (gate_line n) gates) _ (and_left first_two (are_pairs lines lamp) s)
+
+  pub lamp-sound : are_pairs (gate_line n + length gates / 5) lamp ≡ true
+  unfolding is_sound
+  lamp-sound = and_right first_two _ s
+
 module _ {file : List ℕ} {n : ℕ} {gates outputs lamp : List ℕ} (o : Opened file n gates outputs lamp) where
   pub net-is : netlist_of (fields_of file).items ≡ net_with n (gates_of gates) (pairs_of outputs) (pairs_of lamp)
   unfolding netlist_of
   net-is = rw (o.contacts, o.gates-are, o.outputs-are, o.lamp-is)
 
-  parts-sound : is_sound n gates outputs lamp ≡ true
+  pub parts-sound : is_sound n gates outputs lamp ≡ true
   unfolding netlist_of
   parts-sound = rw (o.contacts, o.gates-are, o.outputs-are, o.lamp-is) (accepted file o.accepted).sound
 
@@ -63,23 +83,14 @@ module _ {file : List ℕ} {n : ℕ} {gates outputs lamp : List ℕ} (o : Opened
   unfolding netlist_of
   few-contacts = rw o.contacts (accepted file o.accepted).form.most
 
-  abbrev lines : ℕ
-  lines = gate_line n + length gates / 5
-
-  abbrev first_two : Bool
-  first_two = are_gates (gate_line n) gates && are_pairs lines outputs
-
   pub gates-wired : are_gates (gate_line n) gates ≡ true
-  unfolding is_sound
-  gates-wired = and_left _ (are_pairs lines outputs) (and_left first_two (are_pairs lines lamp) parts-sound)
+  gates-wired = gates-sound _ _ _ _ parts-sound
 
   pub outputs-wired : are_pairs (gate_line n + length gates / 5) outputs ≡ true
-  unfolding is_sound
-  outputs-wired = and_right (are_gates (gate_line n) gates) _ (and_left first_two (are_pairs lines lamp) parts-sound)
+  outputs-wired = outputs-sound _ _ _ _ parts-sound
 
   pub lamp-wired : are_pairs (gate_line n + length gates / 5) lamp ≡ true
-  unfolding is_sound
-  lamp-wired = and_right first_two _ parts-sound
+  lamp-wired = lamp-sound _ _ _ _ parts-sound
 
   pub bounded : Bounds (net_with n (gates_of gates) (pairs_of outputs) (pairs_of lamp))
   bounded = rw (← net-is) (accepted file o.accepted).bounds

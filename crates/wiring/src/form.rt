@@ -6,17 +6,9 @@ ghost use Rattle.files.specs.Inner.Row.{is_some, item_by};
 ghost use Rattle.wiring.specs.Questions.{form_of};
 ghost use Rattle.wiring.specs.Inner.Read.{PartsOf, contacts_by};
 
+use crate::parts::Parts;
 use fields::{Field, value};
 use files::has_parts;
-
-// A netlist's contacts and the bytes of its gates, its outputs and its lamp; of no lamp there are none.
-#[derive(Clone, Copy, Drop)]
-pub struct Parts<'a> {
-    pub contacts: usize,
-    pub gates: &'a [u8],
-    pub outputs: &'a [u8],
-    pub lamp: &'a [u8],
-}
 
 // Whether the fourth field, if there is one, is tag 6 of one whole pair.
 fn may_be_lamp(file: &[u8], fourth: Option<Field>) -> bool

@@ -4,7 +4,7 @@ ghost use Rattle.files.specs.Refusals.{number_in};
 ghost use Rattle.wiring.specs.Questions.{netlist_refusal};
 ghost use Rattle.wiring.specs.Inner.Read.{PartsOf};
 
-use crate::form::Parts;
+use crate::parts::Parts;
 use crate::sound::Wiring;
 use crate::{form, sound};
 use files::Refusal;

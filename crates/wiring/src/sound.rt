@@ -3,7 +3,7 @@ ghost use Rattle.std.specs.Prelude.{◌≡◌, ◌+◌, ◌/◌, ◌≤◌, leng
 ghost use Rattle.netlist.specs.Netlist.{gate_at, pair_at};
 ghost use Rattle.wiring.specs.Questions.{is_gate, is_pair, are_gates, are_pairs, wiring_of};
 
-use crate::form::Parts;
+use crate::parts::Parts;
 
 // Question 12's answer.
 #[derive(Clone, Copy, Drop)]
@@ -58,12 +58,10 @@ fn pairs_sound(lines: usize, pairs: &[u8]) -> bool
 
 // Question 12: is every kind 0 or 1, every source below its gate's own line, every output line and lamp line in the netlist?
 pub fn ask_wiring(parts: &Parts<'_>) -> Wiring
-    requires { (parts.now.contacts ≤ 12) × (length parts.now.gates.now / 5 ≤ 10602) }
     ensures { result ≡ wiring_of parts.now.contacts parts.now.gates.now parts.now.outputs.now parts.now.lamp.now }
 {
-    let first = 2 + 2 * parts.contacts;
-    let lines = first + parts.gates.len() / 5;
-    if gates_sound(first, parts.gates)
+    let lines = parts.line_count();
+    if gates_sound(parts.gate_line(), parts.gates)
         && pairs_sound(lines, parts.outputs)
         && pairs_sound(lines, parts.lamp)
     {

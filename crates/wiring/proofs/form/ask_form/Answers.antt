@@ -6,7 +6,7 @@ use mathlib.Core.List.{List}
 use Prim.Native.Nat.{ℕ}
 use Rattle.std.specs.Prelude.{Option, Some, None}
 use Rattle.fields.specs.declared.Field.{Field}
-use Rattle.fields.specs.Fields.{Item, fields_of}
+use Rattle.fields.specs.Fields.{Item, fields_of, value_in}
 use Rattle.files.specs.Header.{contacts_in, has_parts}
 use Rattle.files.specs.Inner.Row.{item_by}
 use Rattle.files.proofs.Counts.{contacts-first}
@@ -78,19 +78,39 @@ yes c =
     (sym (c.may_be_lamp.ensures ∙ ap₂ lamp_in row.four row.fourth) ∙ c.if-not-may_be_lamp.false)
     (sym row.ends ∙ c.if-not-row.false)
 
+-- The parts are the values of the file's second, third and fourth field.
+module _ (c : After-lamp_of) where
+  abbrev is : List Item
+  is = (fields_of c.args.file.now).items
+
+  gates-are : c.value.result.now ≡ value_in is 1
+  gates-are =
+      let gates = of_row c.args.file.now (Some c.in_ok-gates.gates) c.first_four-row.ensures.second c.in_ok-gates.was in
+      c.value.ensures ∙ ap (λ (i : Item). i.value) gates
+
+  outputs-are : c.value-2.result.now ≡ value_in is 2
+  outputs-are =
+      let outputs = of_row c.args.file.now (Some c.in_ok-outputs.outputs) c.first_four-row.ensures.third c.in_ok-outputs.was in
+      c.value-2.ensures ∙ ap (λ (i : Item). i.value) outputs
+
+  lamp-is : c.lamp_of.result.now ≡ value_in is 3
+  lamp-is = c.lamp_of.ensures ∙ ap (λ (i : Item). i.value) c.first_four-row.ensures.fourth
+
+pub invariant_of-result : goal.invariant_of-result
+invariant_of-result c =
+    let here = (goal.at.invariant_of-result c).After-lamp_of in
+    let form = well-formed _ _ (sym (yes here)) in
+    record {
+      few_contacts = form.most;
+      few_gates = rw (gates-are here) form.gates.most;
+      few_outputs = rw (outputs-are here) form.pairs.most;
+      one_lamp = rw (lamp-is here) form.lamp.most;
+    }
+
 pub returns-clause-formed : goal.returns-clause-formed
 returns-clause-formed c = yes (goal.at.returns-clause-formed c).After-lamp_of
 
 pub returns-clause-parts : goal.returns-clause-parts
 returns-clause-parts c =
-    let file = c.args.file.now in
-    let row = c.first_four-row.ensures in
-    let gates = of_row file (Some c.in_ok-gates.gates) row.second (c.in_ok-gates.was) in
-    let outputs = of_row file (Some c.in_ok-outputs.outputs) row.third (c.in_ok-outputs.was) in
-    let value = λ (i : Item). i.value in
-    record {
-      contacts = (well-formed _ _ (sym (yes (goal.at.returns-clause-parts c).After-lamp_of))).contacts;
-      gates = c.value.ensures ∙ ap value gates;
-      outputs = c.value-2.ensures ∙ ap value outputs;
-      lamp = c.lamp_of.ensures ∙ ap value row.fourth;
-    }
+    let here = (goal.at.returns-clause-parts c).After-lamp_of in
+    record { contacts = (well-formed _ _ (sym (yes here))).contacts; gates = gates-are here; outputs = outputs-are here; lamp = lamp-is here }

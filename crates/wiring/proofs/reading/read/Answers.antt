@@ -1,17 +1,10 @@
 -- `reading::read` meets its contract: each answer is the case that the answers before it lead to.
 use mathlib.Core.Path.{sym, ◌∙◌}
-use Rattle.wiring.proofs.Accepted.{well-formed}
 use Rattle.wiring.proofs.Opened.{unformed, unsound, sound}
 use Rattle.wiring.proofs.reading.read.Goals as goal
 
 pub returns-in_default-clause-refusal : goal.returns-in_default-clause-refusal
 returns-in_default-clause-refusal c = unformed _ (sym c.in_default.ensures.formed)
-
-pub ask_wiring-requires : goal.ask_wiring-requires
-ask_wiring-requires c =
-    let form = c.in-Some.ensures in
-    let yes = well-formed _ _ (sym form.formed) in
-    (yes.most, rw form.parts.gates yes.gates.most)
 
 pub returns-in_default-ask_wiring-clause-refusal : goal.returns-in_default-ask_wiring-clause-refusal
 returns-in_default-ask_wiring-clause-refusal c =
