@@ -1,10 +1,9 @@
 -- The block of several levels as it is written and stored.
 use Prim.Native.Nat.{ℕ, zero, suc, ◌+◌, ◌-◌, ◌/◌, ◌≤◌, ◌<◌}
 use native.Mathlib.Omega.{arith}
-use mathlib.Core.Path.{◌≡◌, refl, sym, ap₂}
+use mathlib.Core.Path.{◌≡◌, refl, sym, ap₂, ◌∙◌}
 use mathlib.Core.Bool.{Bool, true, false, ◌&&◌, ◌||◌}
 use mathlib.Core.List.{List}
-use lib.ListN.{length}
 use Rattle.fields.specs.Bounded.{any}
 use Rattle.diagram.specs.declared.Diagram.{Diagram}
 use Rattle.diagram.specs.Diagram.{width}
@@ -12,10 +11,10 @@ use Rattle.rules.specs.declared.Entry.{Entry}
 use Rattle.rules.specs.declared.Entry.TheVariants.{Always}
 use Rattle.rules.specs.Make.{Make, return, ◌>>=◌}
 use Rattle.rules.specs.Blocks.{Matrix, entry_at, is_always, term, lines_in, joined, cut, product_entry, product, level_entry, block}
-use Rattle.gates.specs.Inner.Written.{Written, RoomFor}
-use Rattle.products.specs.Inner.Cells.{matrix_of, Stored}
+use Rattle.gates.specs.declared.gate.Gates.{Gates}
+use Rattle.gates.specs.Inner.Written.{free_line, Grown, RoomFor}
+use Rattle.products.specs.Inner.Cells.{Stored}
 use Rattle.gates.proofs.Binding.{sequence-same}
-use Rattle.products.proofs.Cells.{stored_same}
 use Rattle.rules.proofs.Cuts.{size-cut}
 use Rattle.rules.proofs.Halves.{cut-single, cut-halves}
 use Rattle.blocks.proofs.Levels.{level_of, level-listed, level-at}
@@ -59,76 +58,70 @@ block-halves d l count more =
     rw (cut-halves count more, size-cut half (omega arith), size-cut (count - half) (omega arith)) (rw columns)
 
 -- A block of count levels from level l on is written, and its matrix stored.
-abbrev BuiltBlock : Diagram → ℕ → ℕ → ℕ → ℕ → List ℕ → List ℕ → List ℕ → ℕ → Type 0
-BuiltBlock d l count first made start out cells total =
-    Written (block d (cut count) l) first made start out (block d (cut count) l (first + made)).1 total
-    × Stored cells (entry_at (block d (cut count) l (first + made)).1) (width d l) (width d (l + count))
+pub record BuiltBlock (d : Diagram) (l count : ℕ) (g h : Gates) (cells : Matrix) : Type 0 where
+  pub grown : Grown (block d (cut count) l) g h
+  pub stored : Stored cells (entry_at (block d (cut count) l (free_line g)).1) (width d l) (width d (l + count))
+
+-- The product of the matrices of the two halves of a block.
+abbrev pub halves_product : Diagram → ℕ → ℕ → Matrix → Matrix → Make Matrix
+halves_product d l count = product (width d l) (width d (l + (count + 1) / 2)) (width d (l + count))
 
 -- The product of the two stored matrices is that of the two blocks.
-product_is : (d : Diagram) (l count : ℕ) {first made n k : ℕ} {start between later left right : List ℕ} →
-    BuiltBlock d l ((count + 1) / 2) first made start between left n →
-    BuiltBlock d (l + (count + 1) / 2) (count - (count + 1) / 2) first n between later right k →
-    product (width d l) (width d (l + (count + 1) / 2)) (width d (l + count)) (matrix_of left) (matrix_of right)
-    ≡ product (width d l) (width d (l + (count + 1) / 2)) (width d (l + count)) (block d (cut ((count + 1) / 2)) l (first + made)).1
-    (block d (cut (count - (count + 1) / 2)) (l + (count + 1) / 2) (first + n)).1
-product_is d l count {first} {made} {n} {left = left} {right = right} a b =
+product_is : (d : Diagram) (l count : ℕ) {g h k : Gates} {left right : Matrix} → BuiltBlock d l ((count + 1) / 2) g h left →
+    BuiltBlock d (l + (count + 1) / 2) (count - (count + 1) / 2) h k right →
+    halves_product d l count left right
+    ≡ halves_product d l count (block d (cut ((count + 1) / 2)) l (free_line g)).1
+    (block d (cut (count - (count + 1) / 2)) (l + (count + 1) / 2) (free_line h)).1
+product_is d l count {g} {h} {left = left} {right = right} a b =
     let half = (count + 1) / 2 in
     let columns : l + half + (count - half) ≡ l + count = omega arith in
-    let second = (block d (cut (count - half)) (l + half) (first + n)).1 in
-    let stored : Stored right (entry_at second) (width d (l + half)) (width d (l + count)) = rw columns at b.1 in
-    product-same (width d l) (width d (l + half)) (width d (l + count)) (matrix_of left) _ (matrix_of right) second a.1.at stored.at
+    let second = (block d (cut (count - half)) (l + half) (free_line h)).1 in
+    let stored : Stored right (entry_at second) (width d (l + half)) (width d (l + count)) = rw columns at b.stored in
+    product-same (width d l) (width d (l + half)) (width d (l + count)) left _ right second a.stored.at stored.at
 
-module _ (d : Diagram) (l : ℕ) {first made : ℕ} {start cells : List ℕ} where
+module _ (d : Diagram) (l : ℕ) {g : Gates} {cells : Matrix} where
   pub built-one : (count : ℕ) → count ≡ 1 → Stored cells (level_entry d l) (width d l) (width d (suc l)) →
-      BuiltBlock d l count first made start start cells made
+      BuiltBlock d l count g g cells
   unfolding block
   built-one count e s =
       let columns : l + count ≡ suc l = omega arith in
-      rw (cut-single count e, level-listed d l, columns)
-      (written-return (level_of d l), stored_same s (λ u v hu hv. sym (level-at d l u v hu hv)))
+      record {
+        grown = rw (cut-single count e, level-listed d l) (written-return (level_of d l));
+        stored =
+            rw (cut-single count e, level-listed d l, columns)
+            (record { at = λ u v hu hv. s.at u v hu hv ∙ sym (level-at d l u v hu hv) });
+      }
 
-  pub built-two : (count : ℕ) {n k total : ℕ} {between later out left right : List ℕ} → 2 ≤ count →
-      BuiltBlock d l ((count + 1) / 2) first made start between left n →
-      BuiltBlock d (l + (count + 1) / 2) (count - (count + 1) / 2) first n between later right k →
-      Written (product (width d l) (width d (l + (count + 1) / 2)) (width d (l + count)) (matrix_of left) (matrix_of right)) first k
-      later out
-      (product (width d l) (width d (l + (count + 1) / 2)) (width d (l + count)) (matrix_of left) (matrix_of right) (first + k)).1
-      total →
-      Stored cells
-      (entry_at
-      (product (width d l) (width d (l + (count + 1) / 2)) (width d (l + count)) (matrix_of left) (matrix_of right) (first + k)).1)
-      (width d l) (width d (l + count)) →
-      BuiltBlock d l count first made start out cells total
+  pub built-two : (count : ℕ) {h k end : Gates} {left right : Matrix} → 2 ≤ count → BuiltBlock d l ((count + 1) / 2) g h left →
+      BuiltBlock d (l + (count + 1) / 2) (count - (count + 1) / 2) h k right → Grown (halves_product d l count left right) k end →
+      Stored cells (entry_at (halves_product d l count left right (free_line k)).1) (width d l) (width d (l + count)) →
+      BuiltBlock d l count g end cells
   built-two count more a b w s =
       let half = (count + 1) / 2 in
       let rest = count - half in
-      let first-half = (block d (cut half) l (first + made)).1 in
+      let first-half = (block d (cut half) l (free_line g)).1 in
       let same = product_is d l count a b in
-      let joined = product (width d l) (width d (l + half)) (width d (l + count)) in
       let whole =
       rw (← block-halves d l count more) at
-      (written-bind (λ x. block d (cut rest) (l + half) >>= joined x) a.0
-      (written-bind (joined first-half) b.0 (rw same at w))) in
-      (written-own whole, rw (same, whole.result) at s)
+      (written-bind (λ x. block d (cut rest) (l + half) >>= halves_product d l count x) a.grown
+      (written-bind (halves_product d l count first-half) b.grown (rw same at w))) in
+      record { grown = written-own whole; stored = rw (same, whole.result) at s }
 
 -- Room for a block of more than one level leaves room for its left block, then for its right block, then for their product.
-module _ (d : Diagram) (l count : ℕ) (more : 2 ≤ count) {first made : ℕ} {start : List ℕ}
-    (room : RoomFor (block d (cut count) l) first made start) where
-  pub left-room : RoomFor (block d (cut ((count + 1) / 2)) l) first made start
+module _ (d : Diagram) (l count : ℕ) (more : 2 ≤ count) {g : Gates} (room : RoomFor (block d (cut count) l) g) where
+  pub left-room : RoomFor (block d (cut ((count + 1) / 2)) l) g
   left-room = room-first _ _ (rw (block-halves d l count more) at room)
 
-  module _ {n : ℕ} {between left : List ℕ} (a : BuiltBlock d l ((count + 1) / 2) first made start between left n)
-      (kept : length between ≡ length start) where
+  module _ {h : Gates} {left : Matrix} (a : BuiltBlock d l ((count + 1) / 2) g h left) where
     rest : RoomFor
         (block d (cut (count - (count + 1) / 2)) (l + (count + 1) / 2) >>=
-        product (width d l) (width d (l + (count + 1) / 2)) (width d (l + count)) (block d (cut ((count + 1) / 2)) l (first + made)).1)
-        first n between
-    rest = room-then _ _ (rw (block-halves d l count more) at room) a.0 kept
+        halves_product d l count (block d (cut ((count + 1) / 2)) l (free_line g)).1)
+        h
+    rest = room-then _ _ (rw (block-halves d l count more) at room) a.grown
 
-    pub right-room : RoomFor (block d (cut (count - (count + 1) / 2)) (l + (count + 1) / 2)) first n between
+    pub right-room : RoomFor (block d (cut (count - (count + 1) / 2)) (l + (count + 1) / 2)) h
     right-room = room-first _ _ rest
 
-    pub last-room : {k : ℕ} {later right : List ℕ} →
-        BuiltBlock d (l + (count + 1) / 2) (count - (count + 1) / 2) first n between later right k → length later ≡ length between →
-        RoomFor (product (width d l) (width d (l + (count + 1) / 2)) (width d (l + count)) (matrix_of left) (matrix_of right)) first k later
-    last-room b same = rw (product_is d l count a b) (room-then _ _ rest b.0 same)
+    pub last-room : {k : Gates} {right : Matrix} →
+        BuiltBlock d (l + (count + 1) / 2) (count - (count + 1) / 2) h k right → RoomFor (halves_product d l count left right) k
+    last-room b = rw (product_is d l count a b) (room-then _ _ rest b.grown)

@@ -1,5 +1,5 @@
 -- The depths of lines, worked out in one scan of the gates.
-use Prim.Native.Nat.{ℕ, zero, suc, ◌+◌, ◌*◌, ◌≤◌, ◌<◌, max}
+use Prim.Native.Nat.{ℕ, zero, suc, ◌+◌, ◌*◌, ◌/◌, ◌≤◌, ◌<◌, max}
 use native.Mathlib.Nat.{add-zero}
 use native.Mathlib.Numerals.{add-one}
 use native.Mathlib.Omega.{arith}
@@ -7,9 +7,8 @@ use mathlib.Core.Path.{◌≡◌, refl, sym, ap, ap₂, ◌∙◌}
 use mathlib.Core.List.{List, [], ◌∷◌, ◌++◌, map, map-append}
 use lib.ListN.{length, get_or, take, set, replicate}
 use lib.Seq.{take-suc-set, get_or-take}
-use Rattle.fields.specs.Fields.{number_of}
 use Rattle.netlist.specs.declared.Gate.{Gate}
-use Rattle.netlist.specs.Netlist.{gate_at, net_with}
+use Rattle.netlist.specs.Netlist.{gate_at, gates_of, net_with}
 use Rattle.fields.specs.Bounded.{listed}
 use Rattle.simulation.specs.Run.{Driver, gate, drive, work_out}
 use Rattle.fields.proofs.Listed.{listed_more}
@@ -42,28 +41,14 @@ module _ (gates : List ℕ) (first : ℕ) where
       (ap (map gate) (listed_more (gate_at gates) g) ∙ map-append gate (listed (gate_at gates) g 0) (gate_at gates g ∷ []))
       ∙ run_more depth_rule (map gate (listed (gate_at gates) g 0)) (gate (gate_at gates g)) (replicate first 0)
 
--- Gate g's sources, read from its bytes, and its depth, given the depths of the lines below its own.
+-- The depth of gate g, given the depths of the lines below its own.
 module _ (gates : List ℕ) (g : ℕ) {first count : ℕ} (s : SourcesBelow gates first count) (h : g < count) where
-  left_is : {a : ℕ} → a ≡ number_of (get_or gates (5 * g + 1) 0) (get_or gates (5 * g + 2) 0) → a ≡ (gate_at gates g).left
-  left_is e = let at-two : 5 * g + 2 ≡ 5 * g + 1 + 1 = omega arith in rw at-two at e
-
-  right_is : {b : ℕ} → b ≡ number_of (get_or gates (5 * g + 3) 0) (get_or gates (5 * g + 4) 0) → b ≡ (gate_at gates g).right
-  right_is e = let at-four : 5 * g + 4 ≡ 5 * g + 3 + 1 = omega arith in rw at-four at e
-
-  pub left_below : {a : ℕ} → a ≡ number_of (get_or gates (5 * g + 1) 0) (get_or gates (5 * g + 2) 0) → a < first + g
-  left_below e = rw (left_is e) (s.at g h).0
-
-  pub right-below : {b : ℕ} → b ≡ number_of (get_or gates (5 * g + 3) 0) (get_or gates (5 * g + 4) 0) → b < first + g
-  right-below e = rw (right_is e) (s.at g h).1
-
-  pub gate-depth : {a b m : ℕ} (depths : List ℕ) → a ≡ number_of (get_or gates (5 * g + 1) 0) (get_or gates (5 * g + 2) 0) →
-      b ≡ number_of (get_or gates (5 * g + 3) 0) (get_or gates (5 * g + 4) 0) → m ≡ max (get_or depths a 0) (get_or depths b 0) →
+  pub gate-depth : {m : ℕ} (depths : List ℕ) → m ≡ max (get_or depths (gate_at gates g).left 0) (get_or depths (gate_at gates g).right 0) →
       m + 1 ≡ deeper (take (first + g) depths) (gate_at gates g)
-  gate-depth {a} {b} {m} depths ea eb e =
-      let ws = take (first + g) depths in
-      let left = sym (get_or-take (first + g) depths a 0 (left_below ea)) ∙ ap (λ (i : ℕ). get_or ws i 0) (left_is ea) in
-      let right = sym (get_or-take (first + g) depths b 0 (right-below eb)) ∙ ap (λ (i : ℕ). get_or ws i 0) (right_is eb) in
-      add-one m ∙ ap suc (e ∙ ap₂ max left right)
+  gate-depth {m} depths e =
+      let left = get_or-take (first + g) depths (gate_at gates g).left 0 (s.at g h).0 in
+      let right = get_or-take (first + g) depths (gate_at gates g).right 0 (s.at g h).1 in
+      add-one m ∙ ap suc (e ∙ ap₂ max (sym left) (sym right))
 
 -- What holds after the first gates: their depths are known, and the largest.
 pub record Scanned (gates : List ℕ) (first g : ℕ) (depths : List ℕ) (deepest : ℕ) : Type 0 where
@@ -104,10 +89,10 @@ module _ {gates : List ℕ} {first g : ℕ} {depths : List ℕ} {deepest : ℕ} 
         few = omega (arith, s.few);
       }
 
-pub depth-from : (gates : List ℕ) (n count : ℕ) →
-    largest (depths_from gates (2 + 2 * n) count) ≡ depth_of (net_with n (listed (gate_at gates) count 0) [] [])
-unfolding depth_of depths_of depths_from
-depth-from gates n count = refl
+pub depth-from : (gates : List ℕ) (n : ℕ) →
+    largest (depths_from gates (2 + 2 * n) (length gates / 5)) ≡ depth_of (net_with n (gates_of gates) [] [])
+unfolding depth_of depths_of depths_from gates_of
+depth-from gates n = refl
 
 pub zeros-taken : (k n : ℕ) → k ≤ n → take k (replicate {A = ℕ} n 0) ≡ replicate k 0
 zeros-taken zero n h = refl
