@@ -25,43 +25,32 @@ use crate::probes;
 use listings::netlists;
 use std::io;
 use std::io::Write;
-use text::{print, spelling};
+use text::spelling;
 use views::{drawings, field_rows, rules, runs, sheets, steps, tables};
 
 pub fn show_all<W: Write>(out: &mut W, text: &[u8]) -> io::Result<()> {
-    let mut at = 0;
-    while at < text.len() {
-        let end = spelling::find(text, at, b'\n');
-        show_line(out, &text[at..end])?;
-        if end == text.len() {
-            return Ok(());
-        }
-        at = end + 1;
+    for line in text.split_inclusive(|byte| *byte == b'\n') {
+        show_line(out, line.strip_suffix(b"\n").unwrap_or(line))?;
     }
     Ok(())
 }
 
 fn show_line<W: Write>(out: &mut W, line: &[u8]) -> io::Result<()> {
-    let kind = fields::byte(line, 0);
-    if kind == b'#' {
+    if let [b'#', ..] = line {
         return Ok(());
     }
-    if 1 < line.len() {
-        let colon = spelling::find(line, 2, b':');
-        print::text(out, &line[2..colon])?;
-        let mut case = [0u8; 1024];
-        if spelling::spell(&line[colon..], &mut case) {
-            return show_spelt(out, kind, &case);
+    if let [kind, _, rest @ ..] = line {
+        let colon = spelling::find(rest, 0, b':');
+        out.write_all(&rest[..colon])?;
+        if let Some(case) = spelling::spell(&rest[colon..]) {
+            show(out, *kind, &case)?;
+            return writeln!(out);
         }
     }
-    print::text(out, b": misspelt\n")
+    writeln!(out, ": misspelt")
 }
 
-fn show_spelt<W: Write>(out: &mut W, kind: u8, case: &[u8; 1024]) -> io::Result<()> {
-    show(out, kind, case)?;
-    print::text(out, b"\n")
-}
-
+// The kinds stand beside what each shows, in place of an enum whose cases this would name once more.
 fn show<W: Write>(out: &mut W, kind: u8, case: &[u8]) -> io::Result<()> {
     let file = reader::nth(case, 0);
     match kind {
@@ -83,6 +72,6 @@ fn show<W: Write>(out: &mut W, kind: u8, case: &[u8]) -> io::Result<()> {
         b'p' => probes::show(out, file, case),
         b's' => sheets::show(out, file, case),
         b'n' => sheets::show_row(out, case),
-        _ => print::text(out, b": of no kind"),
+        _ => write!(out, ": of no kind"),
     }
 }

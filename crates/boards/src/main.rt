@@ -5,8 +5,7 @@ mod cases;
 mod probes;
 
 use std::io;
-use std::io::Read;
-use text::print;
+use std::io::{Read, Write};
 
 fn main(rt: HostRuntime) -> io::Result<()> {
     let mut text = [0u8; 65536];
@@ -22,7 +21,7 @@ fn main(rt: HostRuntime) -> io::Result<()> {
     let mut out = io::writer(&rt);
     cases::show_all(&mut out, &text[..len])?;
     if len == 65536 {
-        print::text(&mut out, b"too long\n")?;
+        writeln!(out, "too long")?;
     }
     Ok(())
 }

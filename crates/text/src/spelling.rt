@@ -3,7 +3,6 @@
 // stand for nothing, but a stroke ends a part.
 ghost use Rattle.std.specs.Prelude.{◌+◌, ◌≤◌, ◌<◌, length, IfOk};
 
-use crate::print;
 use std::io;
 use std::io::Write;
 
@@ -12,87 +11,62 @@ pub fn find(text: &[u8], from: usize, sign: u8) -> usize
     requires { from ≤ length text.now }
     ensures { (from ≤ result) × (result ≤ length text.now) }
 {
-    for i in from..text.len() {
-        if text[i] == sign {
-            return i;
-        }
+    match text[from..].iter().position(|next| *next == sign) {
+        Some(past) => from + past,
+        None => text.len(),
     }
-    text.len()
 }
 
-// Writes the parts that a text spells behind its first sign as fields. Says no where there is no sign, where a sign spells nothing,
-// or where the parts are too long.
-pub fn spell(text: &[u8], case: &mut [u8; 1024]) -> bool {
+// The parts that a text spells behind its first sign, as fields. None where there is no sign, where a sign spells nothing, or where
+// the parts are too long.
+pub fn spell(text: &[u8]) -> Option<[u8; 1024]> {
+    let (_, signs) = text.split_first()?;
+    let mut case = [0u8; 1024];
     let mut start = 0;
     let mut end = 3;
-    for i in 1..text.len() {
-        let sign = text[i];
+    for sign in signs {
         if 1020 < end {
-            return false;
+            return None;
         }
-        if sign == b'/' {
-            put_length(case, start, end);
-            start = end;
-            end += 3;
-        } else if 47 < sign {
-            let byte = byte_of(sign);
-            if byte == NO_BYTE {
-                return false;
+        match *sign {
+            b'/' => {
+                put_length(&mut case, start, end);
+                start = end;
+                end += 3;
             }
-            case[end] = byte;
-            end += 1;
+            0..b'0' => {}
+            _ => {
+                case[end] = byte_of(*sign)?;
+                end += 1;
+            }
         }
     }
-    put_length(case, start, end);
-    0 < text.len()
+    put_length(&mut case, start, end);
+    Some(case)
 }
 
-const NO_BYTE: u8 = 254;
-
 // The byte that a sign from 0 up stands for, if any.
-fn byte_of(sign: u8) -> u8 {
-    if sign < 58 {
-        return sign % 48;
+fn byte_of(sign: u8) -> Option<u8> {
+    match sign {
+        b'0'..=b'9' => Some(sign - b'0'),
+        b'@' => Some(255),
+        b'A'..=b'`' => Some(sign - b'A' + 36),
+        b'a'..=b'z' => Some(sign - b'a' + 10),
+        b'{'..=b'}' => Some(sign - b'{' + 127),
+        _ => None,
     }
-    if sign < 64 {
-        return NO_BYTE;
-    }
-    if sign == b'@' {
-        return 255;
-    }
-    if sign < 97 {
-        return sign - 29;
-    }
-    if sign < 123 {
-        return sign - 87;
-    }
-    if sign < 126 {
-        return sign + 4;
-    }
-    NO_BYTE
 }
 
 // The sign that stands for a byte, or a question mark if none does.
 pub fn sign_of(byte: u8) -> u8 {
-    if byte < 10 {
-        return byte + 48;
+    match byte {
+        0..=9 => b'0' + byte,
+        10..=35 => b'a' + (byte - 10),
+        36..=67 => b'A' + (byte - 36),
+        127..=129 => b'{' + (byte - 127),
+        255 => b'@',
+        _ => b'?',
     }
-    if byte < 36 {
-        return byte + 87;
-    }
-    if byte < 68 {
-        return byte + 29;
-    }
-    if byte == 255 {
-        return b'@';
-    }
-    if byte < 127 {
-        return b'?';
-    }
-    if byte < 130 {
-        return byte - 4;
-    }
-    b'?'
 }
 
 // Writes the length of a field that starts and ends at a place.
@@ -104,8 +78,8 @@ fn put_length(case: &mut [u8; 1024], start: usize, end: usize)
     case[start + 2] = (len % 256) as u8;
 }
 
-// The number that the digits of a case's part are, which is to be below a bound. An error is that of the writing, and comes only
-// where the number is too large; then nothing but `out` has changed.
+// The number that the digits of a case's part are, which is to be below a bound; where it is too large, `out` says so, and the
+// number is 0. An error is that of the writing.
 pub fn number<W: Write>(out: &mut W, case: &[u8], part: usize, bound: usize) -> io::Result<usize>
     requires { 0 < bound }
     ensures { IfOk result (λ n. n < bound) }
@@ -114,15 +88,14 @@ pub fn number<W: Write>(out: &mut W, case: &[u8], part: usize, bound: usize) -> 
     if n < bound {
         return Ok(n);
     }
-    print::text(out, b": too large")?;
+    write!(out, ": too large")?;
     Ok(0)
 }
 
 // The number that digits are, the last eighteen of them.
 fn digits(part: &[u8]) -> usize {
-    let mut n = 0;
-    for i in 0..part.len() {
-        n = n % 100000000000000000 * 10 + fields::byte(part, i) as usize;
-    }
-    n
+    part.iter().fold(
+        0,
+        |n, digit| n % 100_000_000_000_000_000 * 10 + usize::from(*digit),
+    )
 }

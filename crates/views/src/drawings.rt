@@ -4,38 +4,43 @@ ghost use Rattle.std.specs.Prelude.{◌≡◌, ◌≤◌, length, IfOk, OnErr};
 use files::Written;
 use std::io;
 use std::io::Write;
-use text::{print, spelling};
+use text::print::Signs;
+use text::spelling;
 
 // The table of a drawing.
 pub fn show<W: Write>(out: &mut W, drawing: &[u8], case: &[u8]) -> io::Result<()> {
-    let room = spelling::number(out, case, 1, 244)?;
-    let mut lent = [b'.'; 10610];
-    let written = truths::from_drawing(drawing, &mut lent[0..room]);
-    show_table(out, written, &lent, room)
+    show_table(out, drawing, case, |drawing, table| {
+        truths::from_drawing(drawing, table)
+    })
 }
 
-// What was returned, and the lent bytes, so many.
-pub fn show_table<W: Write>(
+// The table that a service makes of a file, in as many lent bytes as the case says.
+pub fn show_table<W: Write, F: FnOnce(&[u8], &mut [u8]) -> Written>(
     out: &mut W,
-    written: Written,
-    lent: &[u8; 10610],
-    room: usize,
-) -> io::Result<()> {
-    print::form(
+    file: &[u8],
+    case: &[u8],
+    make: F,
+) -> io::Result<()>
+    requires { F.IsAlwaysCallable make }
+{
+    let room = spelling::number(out, case, 1, 244)?;
+    let mut lent = [b'.'; 243];
+    let table = &mut lent[..room];
+    let made = make(file, table);
+    write!(
         out,
-        b": %, bytes %",
-        written.refusal as usize,
-        written.length as usize,
-        0,
-    )?;
-    print::signs(out, b", table ", lent, 0, room)
+        ": {}, bytes {}, table {}",
+        made.refusal,
+        made.length,
+        Signs(table)
+    )
 }
 
 // That of a row of nodes.
 pub fn show_row<W: Write>(out: &mut W, case: &[u8]) -> io::Result<()> {
     let mut file = [0u8; 623];
     let len = put_row(out, case, &mut file)?;
-    show(out, &file[0..len], case)
+    show(out, &file[..len], case)
 }
 
 // Writes a drawing with twelve contacts, one output, the last number, and so many nodes of three bytes 0, which lead to the constant 0,
@@ -46,11 +51,9 @@ fn put_row<W: Write>(out: &mut W, case: &[u8], file: &mut [u8; 623]) -> io::Resu
 {
     let count = spelling::number(out, case, 0, 205)?;
     let node_bytes = 3 * count;
+    files::put_field(file, 0, 1, &[12]);
+    files::put_field(file, 4, 2, &[(count + 1) as u8]);
     file[8] = 7;
-    file[9] = (node_bytes / 256) as u8;
-    file[10] = (node_bytes % 256) as u8;
-    files::put_field(file, 0, 1, b"\x0c");
-    let output = [(count + 1) as u8];
-    files::put_field(file, 4, 2, &output);
+    files::put_number(file, 9, node_bytes as u16);
     Ok(11 + node_bytes)
 }

@@ -2,14 +2,14 @@
 use fields::{Cursor, Field, Framing, Step};
 use std::io;
 use std::io::Write;
-use text::print;
+use text::print::Bytes;
 
 pub fn show<W: Write>(out: &mut W, file: &[u8]) -> io::Result<()> {
-    print::text(out, b":\n")?;
+    writeln!(out, ":")?;
     walk(out, file)?;
     match fields::whole(file) {
-        Framing::Whole => print::text(out, b"whole"),
-        Framing::Broken => print::text(out, b"broken"),
+        Framing::Whole => write!(out, "whole"),
+        Framing::Broken => write!(out, "broken"),
     }
 }
 
@@ -23,23 +23,22 @@ fn walk<W: Write>(out: &mut W, file: &[u8]) -> io::Result<()> {
                 cursor = moved;
             }
             Step::End => {
-                return print::text(out, b"end, ");
+                return write!(out, "end, ");
             }
             Step::Cut => {
-                return print::text(out, b"cut, ");
+                return write!(out, "cut, ");
             }
         }
     }
 }
 
 fn show_field<W: Write>(out: &mut W, file: &[u8], field: Field) -> io::Result<()> {
-    print::form(
+    writeln!(
         out,
-        b"tag % at % len %:",
-        field.tag as usize,
+        "tag {} at {} len {}:{}",
+        field.tag,
         field.start,
         field.len,
-    )?;
-    print::bytes(out, fields::value(file, field))?;
-    print::text(out, b"\n")
+        Bytes(fields::value(file, field))
+    )
 }

@@ -4,32 +4,38 @@ ghost use Rattle.std.specs.Prelude.{◌≡◌, ◌≤◌, length, IfOk, OnErr};
 
 use std::io;
 use std::io::Write;
-use text::{print, spelling};
+use text::print::Signs;
+use text::spelling;
 
 // A run of a netlist with what else the case says.
 pub fn show<W: Write>(out: &mut W, netlist: &[u8], case: &[u8]) -> io::Result<()> {
     let lines_len = spelling::number(out, case, 1, 10610)?;
     let pairs_len = spelling::number(out, case, 5, 10610)?;
-    let mut lines = [b'.'; 10610];
-    let mut pairs = [b'.'; 10610];
+    let mut lines = [b'.'; 10609];
+    let mut pairs = [b'.'; 10609];
+    let lines = &mut lines[..lines_len];
+    let pairs = &mut pairs[..pairs_len];
     let refusal = run::run(
         netlist,
         reader::nth(case, 4),
         reader::nth(case, 3),
-        &mut lines[0..lines_len],
-        &mut pairs[0..pairs_len],
+        lines,
+        pairs,
     );
     let from = spelling::number(out, case, 2, 10610)?;
-    print::form(out, b": %", refusal as usize, 0, 0)?;
-    print::signs(out, b", lines ", &lines, from, lines_len)?;
-    print::signs(out, b", pairs ", &pairs, 0, pairs_len)
+    write!(
+        out,
+        ": {refusal}, lines {}, pairs {}",
+        Signs(&lines[from.min(lines_len)..]),
+        Signs(pairs)
+    )
 }
 
 // A run of a row of gates.
 pub fn show_row<W: Write>(out: &mut W, case: &[u8]) -> io::Result<()> {
     let mut file = [0u8; 53029];
     let len = put_row(out, case, &mut file)?;
-    show(out, &file[0..len], case)
+    show(out, &file[..len], case)
 }
 
 // Writes a netlist with one contact, so many gates of five bytes 0, ANDs of the constant 0, and one output, the last line and the
@@ -39,13 +45,11 @@ pub fn put_row<W: Write>(out: &mut W, case: &[u8], file: &mut [u8; 53029]) -> io
     ensures err { OnErr result (file.new ≡ file.old) }
 {
     let count = spelling::number(out, case, 0, 10604)?;
-    let last = 3 + count;
     let gate_bytes = 5 * count;
+    let [high, low] = (3 + count as u16).to_be_bytes();
+    files::put_field(file, 0, 1, &[1]);
     file[4] = 4;
-    file[5] = (gate_bytes / 256) as u8;
-    file[6] = (gate_bytes % 256) as u8;
-    files::put_field(file, 0, 1, b"\x01");
-    let pair = [(last / 256) as u8, (last % 256) as u8, 0, 3];
-    files::put_field(file, 7 + gate_bytes, 5, &pair);
+    files::put_number(file, 5, gate_bytes as u16);
+    files::put_field(file, 7 + gate_bytes, 5, &[high, low, 0, 3]);
     Ok(14 + gate_bytes)
 }

@@ -2,13 +2,13 @@
 use diagram::Diagram;
 use std::io;
 use std::io::Write;
-use text::{print, spelling};
+use text::spelling;
 use twins::Twins;
 
 pub fn show<W: Write>(out: &mut W, file: &[u8]) -> io::Result<()> {
     let table = table::read(file);
     let refusal = table.refusal;
-    print::form(out, b": %", refusal as usize, 0, 0)?;
+    write!(out, ": {refusal}")?;
     if refusal == 0 {
         shape(out, table.diagram)?;
     }
@@ -16,71 +16,53 @@ pub fn show<W: Write>(out: &mut W, file: &[u8]) -> io::Result<()> {
 }
 
 fn shape<W: Write>(out: &mut W, d: Diagram) -> io::Result<()> {
-    let widths = d.widths;
-    print::form(
+    write!(
         out,
-        b", contacts %, outputs %, widths",
-        d.contacts,
-        d.outputs,
-        0,
+        ", contacts {}, outputs {}, widths",
+        d.contacts, d.outputs
     )?;
-    for i in 0..d.contacts {
-        print::form(out, b" %", widths[i % 12], 0, 0)?;
+    for width in d.widths.iter().take(d.contacts) {
+        write!(out, " {width}")?;
     }
     Ok(())
 }
 
 // The words at inputs 0 to 8, up to the first that is refused.
 fn words<W: Write>(out: &mut W, file: &[u8]) -> io::Result<()> {
-    print::text(out, b"; read off")?;
+    write!(out, "; read off")?;
     for a in 0..9 {
         let reading = table::read_off(file, a);
-        let refusal = reading.refusal;
-        if refusal != 0 {
-            return print::form(out, b" refused %", refusal as usize, 0, 0);
+        if reading.refusal != 0 {
+            return write!(out, " refused {}", reading.refusal);
         }
-        print::form(out, b" %", reading.word as usize, 0, 0)?;
+        write!(out, " {}", reading.word)?;
     }
-    print::text(out, b" ..")
+    write!(out, " ..")
 }
 
 // What is read off at one input.
 pub fn show_at<W: Write>(out: &mut W, file: &[u8], case: &[u8]) -> io::Result<()> {
-    let input = spelling::number(out, case, 1, 4294967296)?;
+    let input = spelling::number(out, case, 1, 4_294_967_296)?;
     let reading = table::read_off(file, input as u32);
-    print::form(
-        out,
-        b": %, word %",
-        reading.refusal as usize,
-        reading.word as usize,
-        0,
-    )
+    write!(out, ": {}, word {}", reading.refusal, reading.word)
 }
 
 // The number that a table's file gets and, where question 6 is asked, the first two alike nodes of one level and how many pairs are
 // compared to find them.
 pub fn show_twins<W: Write>(out: &mut W, file: &[u8]) -> io::Result<()> {
-    let table = table::read(file);
-    let refusal = table.refusal;
-    print::form(out, b": %", refusal as usize, 0, 0)?;
+    let refusal = table::read(file).refusal;
+    write!(out, ": {refusal}")?;
     if refusal == 0 || 5 < refusal {
         let found = table::find_twins(file);
-        let twins = found.twins;
-        show_pair(out, twins)?;
-        print::form(out, b", compared %", found.compared, 0, 0)?;
+        match found.twins {
+            Twins::Absent => write!(out, ", no two alike")?,
+            Twins::Present(pair) => write!(
+                out,
+                ", in level {} nodes {} and {}",
+                pair.level, pair.earlier, pair.later
+            )?,
+        }
+        write!(out, ", compared {}", found.compared)?;
     }
     Ok(())
-}
-
-fn show_pair<W: Write>(out: &mut W, twins: Twins) -> io::Result<()> {
-    match twins {
-        Twins::Absent => print::text(out, b", no two alike"),
-        Twins::Present(pair) => print::form(
-            out,
-            b", in level % nodes % and %",
-            pair.level,
-            pair.earlier,
-            pair.later,
-        ),
-    }
 }

@@ -2,5 +2,5 @@
 use Rattle.std.proofs.Common.{◌+◌, ◌≤◌}
 use Rattle.text.proofs.spelling.spell.Given as goal
 
-abbrev pub invariant-loop-i : goal.invariant-loop-i
-invariant-loop-i l = (l.start + 3 ≤ l.end) × (l.end ≤ 1024)
+abbrev pub invariant-loop-sign : goal.invariant-loop-sign
+invariant-loop-sign l = (l.start + 3 ≤ l.end) × (l.end ≤ 1024)
