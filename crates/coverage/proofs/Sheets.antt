@@ -1,7 +1,7 @@
 -- A well-formed sheet: its limits, each rule as a walk finds it, and what is written once all are gathered.
 use Prim.Native.Nat.{ℕ, zero, suc, ◌*◌, ◌-◌, ◌%◌, ◌^◌, ◌≤◌, ◌<◌}
 use native.Mathlib.Omega.{arith}
-use mathlib.Core.Path.{◌≡◌, refl, sym, ap, ap₂, ◌∙◌}
+use mathlib.Core.Path.{◌≡◌, refl, ap, ap₂, ◌∙◌}
 use mathlib.Core.List.{List, []}
 use lib.ListN.{length, get_or, replicate, get_or-map, length-map}
 use denote.Ref.{Bor}
@@ -9,7 +9,7 @@ use Rattle.std.specs.Iterator.{YieldsFirstBy}
 use Rattle.std.proofs.lemmas.Iterator.{YieldsList}
 use Rattle.std.proofs.lemmas.Iterator.Consumers.{YieldsList-from_first}
 use Rattle.std.proofs.lemmas.List.{get_or_default}
-use Rattle.fields.specs.Fields.{Item, fields_of, item_in}
+use Rattle.fields.specs.Fields.{Item, fields_of}
 use Rattle.bits.proofs.Bits.{bits-of}
 use Rattle.canonical.specs.Service.{tabling_of}
 use Rattle.rows.specs.Inner.Rows.{row_at}
@@ -23,9 +23,8 @@ use Rattle.coverage.specs.declared.cover.Shares.TheVariants.{Apart}
 use Rattle.coverage.specs.declared.cover.Gaps.TheVariants.{Covered}
 use Rattle.coverage.specs.Coverage.{shares_of, gaps_of, ruled_at}
 use Rattle.coverage.specs.Service.{from_rules_of}
-use Rattle.coverage.specs.Inner.Gathering.{Gathered, gaps_by}
+use Rattle.coverage.specs.Inner.Gathering.{Gathered}
 use Rattle.coverage.proofs.Inputs.{ruled-values}
-use Rattle.coverage.proofs.Covers.{gaps-are}
 use Rattle.coverage.proofs.Outcomes.{tabled}
 
 module _ (sheet : Sheet) where

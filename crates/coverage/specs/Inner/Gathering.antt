@@ -1,5 +1,5 @@
 -- The inputs that fit the rules of a sheet, and the outputs' truth tables, 64 to a word, as they are put together rule by rule.
-use Rattle.std.specs.Prelude.{ℕ, ◌+◌, ◌*◌, ◌-◌, ◌^◌, ◌≤◌, ◌<◌, ◌≡◌, Bool, true, false, ◌&&◌, ◌||◌, cond, List, eqb, length, get_or}
+use Rattle.std.specs.Prelude.{ℕ, ◌+◌, ◌*◌, ◌-◌, ◌^◌, ◌≤◌, ◌<◌, ◌≡◌, Bool, true, false, ◌&&◌, ◌||◌, cond, List, eqb, get_or}
 use Rattle.std.specs.Int.Bits.{bit_or}
 use Rattle.fields.specs.Bounded.{all, any}
 use Rattle.diagram.specs.Diagram.{bit}

@@ -1,6 +1,6 @@
 -- `cover::are_full` meets its contract.
 use native.Mathlib.Omega.{arith}
-use mathlib.Core.Path.{◌≡◌, ◌∙◌}
+use mathlib.Core.Path.{◌∙◌}
 use borrow.Author.Tests.{tests}
 use lib.Dec.{eqb}
 use Rattle.std.proofs.Common.{rules}

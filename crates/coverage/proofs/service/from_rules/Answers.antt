@@ -1,13 +1,11 @@
 -- `service::from_rules` meets its contract: refused by question 18, or what its rules give.
 use native.Mathlib.Omega.{arith}
-use Prim.Native.Nat.{ℕ, ◌*◌, ◌-◌, ◌%◌, ◌^◌, ◌≤◌}
+use Prim.Native.Nat.{◌*◌, ◌-◌, ◌%◌, ◌^◌, ◌≤◌}
 use mathlib.Core.Path.{◌≡◌, sym, ap, ◌∙◌}
-use mathlib.Core.List.{List}
 use Rattle.std.specs.Option.{option_map}
 use Rattle.files.specs.declared.refusal.Refusal.TheVariants.{Rules}
 use Rattle.rows.proofs.Rows.{row-place}
 use Rattle.rulesheet.specs.Inner.Sheet.{counts_of}
-use Rattle.coverage.specs.Service.{from_rules_of}
 use Rattle.coverage.proofs.Outcomes.{refused-form, refused-by}
 use Rattle.coverage.proofs.Sheets.{sheet-limited}
 use Rattle.coverage.proofs.service.from_rules.Goals.{After-fixed_contacts}

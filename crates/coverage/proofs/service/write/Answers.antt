@@ -1,6 +1,5 @@
 -- `service::write` meets its contract: refused by question 19 or 20, or the table of the functions that the truth tables give.
 use native.Mathlib.Omega.{arith}
-use Prim.Native.Nat.{ℕ, ◌≤◌}
 use mathlib.Core.Path.{◌≡◌, sym, ap, ◌∙◌}
 use lib.ListN.{length}
 use Rattle.std.proofs.Common.{rules}

@@ -1,5 +1,4 @@
 -- `cover::Gathering::add` meets its contract. The loop's invariant: the rule's inputs in the words passed are added.
-use Prim.Native.Nat.{ℕ}
 use mathlib.Core.Path.{◌≡◌}
 use Rattle.coverage.specs.Inner.Gathering.{Added}
 use Rattle.coverage.proofs.cover.Gathering.add.Given as goal

@@ -1,8 +1,8 @@
 -- `cover::Gathering::add_word` meets its contract: the word has none of the rule's inputs, or one that was there, or new ones alone.
 use native.Mathlib.Omega.{arith}
-use mathlib.Core.Path.{◌≡◌, sym, ◌∙◌}
+use mathlib.Core.Path.{sym, ◌∙◌}
 use Rattle.std.proofs.Common.{rules}
-use Rattle.coverage.proofs.Adds.{put-none, put_one, meets}
+use Rattle.coverage.proofs.Adds.{put_one, meets}
 use Rattle.coverage.proofs.cover.Gathering.add_word.Goals as goal
 
 pub returns-then-before-rule-ne0-clause-put : goal.returns-then-before-rule-ne0-clause-put

@@ -1,5 +1,4 @@
 -- `cover::Gathering::ask_gaps` meets its contract.
-use native.Mathlib.Omega.{arith}
 use mathlib.Core.Path.{◌≡◌, sym, ap, ◌∙◌}
 use mathlib.Core.Bool.{Bool, cond}
 use lib.ListN.{get_or}

@@ -1,5 +1,4 @@
 -- `cover::Gathering::ask_shares` meets its contract. The loop's invariant: the rules passed are gathered.
-use Prim.Native.Nat.{ℕ}
 use mathlib.Core.Path.{◌≡◌}
 use lib.ListN.{length}
 use Rattle.rulesheet.specs.Rules.{rule_sheet_in}

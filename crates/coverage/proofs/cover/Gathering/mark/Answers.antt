@@ -1,11 +1,9 @@
 -- `cover::Gathering::mark` meets its contract.
-use native.Mathlib.Omega.{arith}
 use Prim.Native.Nat.{ℕ, ◌+◌, ◌*◌}
-use mathlib.Core.Path.{◌≡◌, sym, ap, ◌∙◌, subst}
-use lib.ListN.{length}
+use mathlib.Core.Path.{sym, ap, subst}
 use Rattle.std.proofs.Common.{rules}
 use Rattle.coverage.specs.Inner.Gathering.{Marked}
-use Rattle.coverage.proofs.Marks.{word_room, marked-none, marked-one}
+use Rattle.coverage.proofs.Marks.{marked-one}
 use Rattle.coverage.proofs.cover.Gathering.mark.Goals as goal
 
 pub loop-j-preserved : goal.loop-j-preserved

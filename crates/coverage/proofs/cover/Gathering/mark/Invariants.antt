@@ -1,5 +1,4 @@
 -- `cover::Gathering::mark` meets its contract. The loop's invariant: the outputs passed have the pattern.
-use Prim.Native.Nat.{ℕ}
 use mathlib.Core.Path.{◌≡◌}
 use Rattle.coverage.specs.Inner.Gathering.{Marked}
 use Rattle.coverage.proofs.cover.Gathering.mark.Given as goal

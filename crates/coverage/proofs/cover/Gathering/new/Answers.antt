@@ -1,7 +1,7 @@
 -- `cover::Gathering::new` meets its contract.
 use native.Mathlib.Omega.{arith}
-use Prim.Native.Nat.{ℕ, ◌*◌, ◌-◌, ◌^◌, ◌≤◌}
-use mathlib.Core.Path.{◌≡◌, ap, ◌∙◌}
+use Prim.Native.Nat.{ℕ, ◌-◌, ◌^◌}
+use mathlib.Core.Path.{ap, ◌∙◌}
 use Rattle.coverage.proofs.Sheets.{sheet-limited, words-are, zero-at}
 use Rattle.coverage.proofs.cover.Gathering.new.Goals as goal
 
