@@ -2,11 +2,11 @@
 use Prim.Native.Nat.{ℕ, ◌+◌, ◌*◌, ◌^◌, ◌<◌, max}
 use native.Mathlib.Decide.{ℕ_discrete}
 use native.Mathlib.Omega.{arith}
-use mathlib.Core.Path.{◌≡◌, refl, sym, ap, ap₂, ◌∙◌}
+use mathlib.Core.Path.{◌≡◌, refl, sym, ap, ap₂, ◌∙◌, subst}
 use mathlib.Core.Bool.{Bool, true, false, ◌&&◌, ◌||◌, cond, and-true, and-false, or-false}
 use mathlib.Core.Logic.{by_cases}
 use mathlib.Core.List.{List}
-use borrow.Author.Tests.{eq-eqb, ne_eqb, eqb-true}
+use borrow.Author.Tests.{eq-eqb, eqb-true}
 use lib.Bits.{bit_and, bit_or, and_le_l}
 use lib.Count.{count_trailing_zeros}
 use lib.Dec.{eqb}
@@ -18,7 +18,9 @@ use Rattle.bits.proofs.Bits.{bit-digit, bit-zero, bit-and, bit-or, bit-either}
 use Rattle.bits.proofs.Trailing.{trailing-set}
 use Rattle.rulesheet.specs.Rules.{has_output}
 use Rattle.cubes.specs.declared.Cube.{Cube}
-use Rattle.cubes.specs.Inner.Cubes.{is_in}
+use Rattle.cubes.specs.Inner.Cubes.{has_word, is_in}
+use Rattle.coverage.specs.declared.cover.Shares.{Shares}
+use Rattle.coverage.specs.declared.cover.Shares.TheVariants.{Apart, Shared}
 use Rattle.coverage.specs.Inner.Gathering.{Marked, Gains, Put, Meets, PutIf, Added, AddedIf}
 use Rattle.coverage.proofs.Marks.{words-apart}
 
@@ -37,8 +39,8 @@ gains-chosen false k a pattern = gains-none _ (and-false (eqb (bit_of k pattern)
 -- One word.
 module _ (words m : ℕ) (c : Cube) (word v : ℕ) (ruled truths : List ℕ) where
   -- It has none of the cube's inputs.
-  pub put-none : (bit_and v c.words.mask ≡ c.words.value → ⊥) → Put words m c word v ruled truths ruled truths
-  put-none ne =
+  pub put-none : has_word c v ≡ false → Put words m c word v ruled truths ruled truths
+  put-none e =
       record {
         some = λ k l. gains-none (is_in c v k) (out k) refl;
         each = λ j k h l. gains-none (is_in c v k && has_output word j) (ap (λ (b : Bool). b && has_output word j) (out k)) refl;
@@ -48,11 +50,11 @@ module _ (words m : ℕ) (c : Cube) (word v : ℕ) (ruled truths : List ℕ) whe
       }
     where
       out : (k : ℕ) → is_in c v k ≡ false
-      out k = ap (λ (b : Bool). b && eqb (bit_of k c.pattern) 1) (ne_eqb _ _ ne)
+      out k = ap (λ (b : Bool). b && eqb (bit_of k c.pattern) 1) e
 
-  module _ (fit : bit_and v c.words.mask ≡ c.words.value) where
+  module _ (fit : has_word c v ≡ true) where
     in-cube : (k : ℕ) → is_in c v k ≡ eqb (bit_of k c.pattern) 1
-    in-cube k = ap (λ (b : Bool). b && eqb (bit_of k c.pattern) 1) (eq-eqb _ _ fit)
+    in-cube k = ap (λ (b : Bool). b && eqb (bit_of k c.pattern) 1) fit
 
     -- None of them was there.
     pub put_one : {truths' : List ℕ} → v < words → bit_and (get_or ruled v 0) c.pattern ≡ 0 → v < length ruled →
@@ -89,13 +91,11 @@ module _ (words m : ℕ) (c : Cube) (word v : ℕ) (ruled truths : List ℕ) whe
 
 -- What the answer says of the word.
 module _ (words m : ℕ) (c : Cube) (word v : ℕ) (ruled truths ruled' truths' : List ℕ) where
-  pub was-there : (r : Bool) → r ≡ true → PutIf r words m c word v ruled truths ruled' truths' → Meets c v ruled
-  was-there true e p = p
-  was-there false e p = absurd (let z : ◌≡◌ {A = ℕ} 0 1 = cc in omega arith)
+  pub was-there : {r : Shares} → r ≡ Shared → PutIf r words m c word v ruled truths ruled' truths' → Meets c v ruled
+  was-there e = subst (λ (r : Shares). PutIf r words m c word v ruled truths ruled' truths') e
 
-  pub was-put : (r : Bool) → r ≡ false → PutIf r words m c word v ruled truths ruled' truths' → Put words m c word v ruled truths ruled' truths'
-  was-put false e p = p
-  was-put true e p = absurd (let z : ◌≡◌ {A = ℕ} 0 1 = cc in omega arith)
+  pub was-put : {r : Shares} → r ≡ Apart → PutIf r words m c word v ruled truths ruled' truths' → Put words m c word v ruled truths ruled' truths'
+  was-put e = subst (λ (r : Shares). PutIf r words m c word v ruled truths ruled' truths') e
 
 -- Word by word.
 module _ (words m : ℕ) (c : Cube) (word : ℕ) (ruled truths : List ℕ) where
@@ -140,11 +140,9 @@ module _ (words m : ℕ) (c : Cube) (word : ℕ) (ruled truths : List ℕ) where
 
 -- What the answer says of all words.
 module _ (words m : ℕ) (c : Cube) (word : ℕ) (ruled truths ruled' truths' : List ℕ) where
-  pub cube-met : (r : Bool) → r ≡ true → AddedIf r words m c word ruled truths ruled' truths' → (w : ℕ) × (w < words) × Meets c w ruled
-  cube-met true e p = p
-  cube-met false e p = absurd (let z : ◌≡◌ {A = ℕ} 0 1 = cc in omega arith)
+  pub cube-met : {r : Shares} → r ≡ Shared → AddedIf r words m c word ruled truths ruled' truths' → (w : ℕ) × (w < words) × Meets c w ruled
+  cube-met e = subst (λ (r : Shares). AddedIf r words m c word ruled truths ruled' truths') e
 
-  pub cube-added : (r : Bool) → r ≡ false → AddedIf r words m c word ruled truths ruled' truths' →
+  pub cube-added : {r : Shares} → r ≡ Apart → AddedIf r words m c word ruled truths ruled' truths' →
       Added words m c word words ruled truths ruled' truths'
-  cube-added false e p = p
-  cube-added true e p = absurd (let z : ◌≡◌ {A = ℕ} 0 1 = cc in omega arith)
+  cube-added e = subst (λ (r : Shares). AddedIf r words m c word ruled truths ruled' truths') e

@@ -1,20 +1,24 @@
 -- Question 20 by the words of the inputs that fit a rule.
-use Prim.Native.Nat.{ℕ, ◌*◌, ◌+◌, ◌-◌, ◌^◌, ◌<◌}
+use Prim.Native.Nat.{ℕ, ◌*◌, ◌+◌, ◌-◌, ◌^◌, ◌≤◌, ◌<◌}
 use native.Mathlib.Omega.{arith}
 use mathlib.Core.Path.{◌≡◌, refl, sym, ap, ◌∙◌}
 use mathlib.Core.Bool.{Bool, true, false, cond}
 use mathlib.Core.List.{List}
-use borrow.Author.Tests.{eq-eqb, eqb-true}
+use borrow.Author.Tests.{eq-eqb, eqb-true, eqb-false}
 use lib.Dec.{eqb}
-use lib.ListN.{get_or}
+use lib.ListN.{length, get_or, take}
+use Rattle.std.specs.List.{list_all}
+use Rattle.std.proofs.lemmas.List.{length-take-le, get_or-take}
+use lib.Seq.{take-length}
 use Rattle.fields.specs.Bounded.{all, any}
-use Rattle.fields.proofs.Bounded.{all-at, all_of}
+use Rattle.fields.proofs.Bounded.{all-at, all_of, all-agree}
 use Rattle.diagram.specs.Diagram.{bit, input_of}
 use Rattle.diagram.proofs.Inputs.{bit-true, input_number}
 use Rattle.bits.specs.Inner.Bits.{bit_of}
 use Rattle.bits.proofs.Bits.{ones, bit-ones, bits-same}
 use Rattle.canonical.specs.Inner.Blocks.{input_at}
 use Rattle.rulesheet.specs.Rules.{RuleSheet}
+use Rattle.rulesheet.proofs.Forms.{all_listed}
 use Rattle.coverage.specs.declared.cover.Gaps.TheVariants.{Covered, Open}
 use Rattle.coverage.specs.Coverage.{fits_rule, gaps_of}
 use Rattle.coverage.specs.Inner.Gathering.{Gathered, is_full, gaps_by}
@@ -37,6 +41,28 @@ not_full word small ne = go (is_full word) refl
         absurd (ne (bits-same 64 word ones small (omega arith) (λ k l.
         eqb-true (bit_of k word) 1 (all-at (λ k. eqb (bit_of k word) 1) 64 e k l) ∙ sym (bit-ones k l))))
     go false e = e
+
+full-test : (word : ℕ) → word < 2 ^ 64 → eqb word ones ≡ is_full word
+full-test word small =
+    both_ways _ _ (λ e. full-word word (eqb-true word ones e))
+    (λ e. go (eqb word ones) refl e)
+  where
+    go : (b : Bool) → eqb word ones ≡ b → is_full word ≡ true → eqb word ones ≡ true
+    go true t e = t
+    go false t e = absurd (let z : true ≡ false = sym e ∙ not_full word small (eqb-false word ones t) in let y : ◌≡◌ {A = ℕ} 0 1 = cc in omega arith)
+
+-- Words that are all ones, one after the other.
+pub all-full : (words : List ℕ) → ((i : ℕ) → get_or words i 0 < 2 ^ 64) →
+    list_all (λ w. eqb w ones) words ≡ all (length words) (λ i. is_full (get_or words i 0))
+all-full words small =
+    ap (list_all (λ w. eqb w ones)) (sym (take-length words)) ∙ all_listed (λ w. eqb w ones) words (length words) (omega arith)
+    ∙ all-agree (length words) _ _ (λ i l. full-test (get_or words i 0) (small i))
+
+pub first-full : (words : List ℕ) (n : ℕ) → n ≤ length words →
+    all (length (take n words)) (λ i. is_full (get_or (take n words) i 0)) ≡ all n (λ i. is_full (get_or words i 0))
+first-full words n h =
+    ap (λ (k : ℕ). all k (λ i. is_full (get_or (take n words) i 0))) (length-take-le n words h)
+    ∙ all-agree n _ _ (λ i l. ap is_full (get_or-take n words i 0 l))
 
 module _ (s : RuleSheet) (ruled truths : List ℕ) (g : Gathered s s.count ruled truths) where
   abbrev full_at : ℕ → Bool

@@ -1,7 +1,7 @@
 -- The rules of a sheet gathered one by one, and question 19.
 use Prim.Native.Nat.{ℕ, ◌+◌, ◌*◌, ◌-◌, ◌^◌, ◌<◌}
 use native.Mathlib.Omega.{arith}
-use mathlib.Core.Path.{◌≡◌, refl, sym, ap, ap₂, ◌∙◌, subst}
+use mathlib.Core.Path.{◌≡◌, refl, sym, ap, ap₂, ◌∙◌}
 use mathlib.Core.Bool.{Bool, true, false, ◌&&◌, ◌||◌, cond}
 use mathlib.Core.List.{List}
 use lib.ListN.{get_or}
@@ -78,22 +78,23 @@ module _ (s : RuleSheet) where
         sym (ap (λ (b : Bool). cond b Shared Apart) met)
 
   -- The same by counts and a rule that are those of the sheet.
-  module _ (n m size i : ℕ) (rule : List ℕ) (c : Cube) (contacts : s.contacts ≡ n) (outputs : s.outputs ≡ m) (sized : size ≡ 2 ^ (n - 6))
-      (same : rule ≡ s.rule i) (cube : CubeOf n rule c) (ruled truths : List ℕ) (g : Gathered s i ruled truths) where
+  module _ (n m size word i : ℕ) (rule : List ℕ) (c : Cube) (contacts : n ≡ s.contacts) (outputs : m ≡ s.outputs) (sized : size ≡ 2 ^ (s.contacts - 6))
+      (same : rule ≡ s.rule i) (cube : CubeOf n rule c × (word ≡ get_or rule n 0)) (ruled truths : List ℕ) (g : Gathered s i ruled truths) where
     own-cube : CubeOf s.contacts (s.rule i) c
-    own-cube = rw (contacts, ← same) cube
+    own-cube = rw (← contacts, ← same) cube.0
 
-    pub gathered_next : {ruled' truths' : List ℕ} → Added size m c (get_or rule n 0) size ruled truths ruled' truths' →
-        Gathered s (i + 1) ruled' truths'
-    gathered_next a = gathered-one i c own-cube ruled truths g (rw (contacts, outputs, ← same, ← sized) a)
+    own-word : word ≡ word_of_rule s i
+    own-word = cube.1 ∙ ap₂ (λ (l : List ℕ) (k : ℕ). get_or l k 0) same contacts
 
-    pub shared-next : i < s.count → (w : ℕ) → w < size → Meets c w ruled → Shared ≡ shares_of s
-    shared-next few w h m = shared i c own-cube ruled truths g few w (rw (contacts, ← sized) h) m
+    pub gathered_next : {ruled' truths' : List ℕ} → Added size m c word size ruled truths ruled' truths' → Gathered s (i + 1) ruled' truths'
+    gathered_next a = gathered-one i c own-cube ruled truths g (rw (← outputs, ← own-word, ← sized) a)
+
+    pub shared-next : i < s.count → (w : ℕ) × (w < size) × Meets c w ruled → Shared ≡ shares_of s
+    shared-next few (w, h, m) = shared i c own-cube ruled truths g few w (rw (← sized) h) m
 
   -- No input fits two rules.
-  pub all_apart : (count : ℕ) (ruled truths : List ℕ) → s.count ≡ count → Gathered s count ruled truths → Apart ≡ shares_of s
-  all_apart count ruled truths e r =
-      let g : Gathered s s.count ruled truths = subst (λ (k : ℕ). Gathered s k ruled truths) (sym e) r in
+  pub all_apart : (ruled truths : List ℕ) → Gathered s s.count ruled truths → Apart ≡ shares_of s
+  all_apart ruled truths g =
       let none = any-not (λ a. fits_two s (input_of a) s.count) (2 ^ s.contacts) (λ a h.
       let p = place_of s.contacts (input_of a) in
       sym (two-same s (at p.word p.place) (input_of a) p.same s.count) ∙ g.apart p.word p.place p.inside.0 p.inside.1) in

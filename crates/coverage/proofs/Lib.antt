@@ -5,7 +5,7 @@ pub mod Adds
 pub mod Gathers
 pub mod Covers
 pub mod Outcomes
-pub mod Lying
+pub mod Sheets
 pub mod Fitting
 pub mod Promises
 pub mod Order

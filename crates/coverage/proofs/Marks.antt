@@ -36,18 +36,16 @@ module _ (words w word pattern : ℕ) (inside : w < words) (before : List ℕ) w
   marked-none = record { marked = λ j h. absurd (omega arith); others = λ p h. refl }
 
   module _ (j : ℕ) (after : List ℕ) (r : Marked words j w word pattern before after) where
-    abbrev at : ℕ
-    at = j * words + w
+    untouched : get_or after (j * words + w) 0 ≡ get_or before (j * words + w) 0
+    untouched = r.others (j * words + w) (λ i h e. tables-apart words w i j inside h (sym e))
 
-    untouched : get_or after at 0 ≡ get_or before at 0
-    untouched = r.others at (λ i h e. tables-apart words w i j inside h (sym e))
-
-    pub marked-one : at < length after →
+    pub marked-one : (at : ℕ) → at ≡ j * words + w → at < length after →
         Marked words (j + 1) w word pattern before (set after at (bit_or (get_or after at 0) (cond (has_output word j) pattern 0)))
-    marked-one room =
+    marked-one at e room =
+        let was : get_or after at 0 ≡ get_or before (j * words + w) 0 = ap (λ (p : ℕ). get_or after p 0) e ∙ untouched in
         record {
           marked = λ i h. by_cases (ℕ_discrete i j)
-              (λ e. rw e (get_or-set_same after at _ 0 room ∙ ap (λ (a : ℕ). bit_or a (cond (has_output word j) pattern 0)) untouched))
-              (λ ne. get_or-set_other after at (i * words + w) _ 0 (tables-apart words w i j inside (omega arith)) ∙ r.marked i (omega arith));
-          others = λ p h. get_or-set_other after at p _ 0 (h j (omega arith)) ∙ r.others p (λ i l. h i (omega arith));
+              (λ q. rw (q, ← e) (get_or-set_same after at _ 0 room ∙ ap (λ (a : ℕ). bit_or a (cond (has_output word j) pattern 0)) (was ∙ ap (λ (p : ℕ). get_or before p 0) (sym e))))
+              (λ ne. get_or-set_other after at (i * words + w) _ 0 (λ q. tables-apart words w i j inside (omega arith) (q ∙ e)) ∙ r.marked i (omega arith));
+          others = λ p h. get_or-set_other after at p _ 0 (λ q. h j (omega arith) (q ∙ e)) ∙ r.others p (λ i l. h i (omega arith));
         }

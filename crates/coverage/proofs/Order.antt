@@ -19,7 +19,7 @@ use Rattle.diagram.specs.Diagram.{Input, bit, input_of}
 use Rattle.table.specs.Encode.{bytes_of}
 use Rattle.functions.specs.Functions.{functions_of, canonical}
 use Rattle.canonical.specs.Service.{laid_of, laid_number}
-use Rattle.rulesheet.specs.declared.form.Form.TheVariants.{Formed, Unformed}
+use Rattle.std.specs.Prelude.{Some, None}
 use Rattle.rulesheet.specs.Rules.{RuleSheet, rule_sheet_of, rule_fields, fits, rule_word, has_output, is_outputs, is_rule, are_rules, form_of, form_number}
 use Rattle.coverage.specs.declared.cover.Shares.TheVariants.{Apart, Shared}
 use Rattle.coverage.specs.declared.cover.Gaps.TheVariants.{Covered, Open}
@@ -141,8 +141,12 @@ forms-same fs gs f first second r = λ i.
     && eqb (contacts_number (head-same fs.items gs.items first second r i)) 0
     && is_outputs (second i)
     && rules-same fs.items gs.items first second r i)
-    (Formed (contacts-same fs.items gs.items first second r i) (outputs-same fs.items gs.items first second r i) (r.count i))
-    Unformed
+    (Some (record {
+      contacts = contacts-same fs.items gs.items first second r i;
+      outputs = outputs-same fs.items gs.items first second r i;
+      count = r.count i;
+    }))
+    None
 
 pub order-of-rules : OrderOfRules
 unfolding from_rules_of rules_refusal

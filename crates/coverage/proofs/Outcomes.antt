@@ -6,10 +6,12 @@ use mathlib.Core.List.{List, [], ◌∷◌}
 use Rattle.fields.specs.Fields.{fields_of}
 use Rattle.fields.specs.Refusals.{first_no}
 use Rattle.fields.proofs.Refusals.{first-no, first_next, first-only}
-use Rattle.files.specs.Room.{writing_of}
+use Rattle.files.specs.Room.{written, writing_of}
 use Rattle.files.proofs.Writing.{refused-before}
 use Rattle.canonical.specs.Service.{laid_of, laid_number, tabling_of}
-use Rattle.rulesheet.specs.declared.form.Form.TheVariants.{Unformed}
+use Rattle.std.specs.Prelude.{None, Err}
+use Rattle.files.specs.declared.refusal.Refusal.{Refusal}
+use Rattle.files.specs.Refusals.{number_of}
 use Rattle.rulesheet.specs.Rules.{RuleSheet, rule_sheet_in, form_of, form_number}
 use Rattle.coverage.specs.declared.cover.Shares.TheVariants.{Apart, Shared}
 use Rattle.coverage.specs.declared.cover.Gaps.TheVariants.{Covered, Open}
@@ -24,7 +26,7 @@ module _ (file : List ℕ) where
   abbrev wide : ℕ
   wide = laid_number (laid_of s.contacts s.outputs (functions_in s))
 
-  pub refused-form : form_of (fields_of file) ≡ Unformed → rules_refusal file ≡ 18
+  pub refused-form : form_of (fields_of file) ≡ None → rules_refusal file ≡ 18
   unfolding rules_refusal
   refused-form e =
       let n : form_number (form_of (fields_of file)) ≡ 18 = ap form_number e in
@@ -54,10 +56,9 @@ module _ (file : List ℕ) where
 
   module _ (buffer : List ℕ) where
     -- A refusal before question 17.
-    pub refused-by : {k n : ℕ} (r : ℕ) → rules_refusal file ≡ r → (r ≡ 0 → ⊥) → (k ≡ r) × (n ≡ 0) →
-        record { refusal = k; length = n; buffer = buffer } ≡ from_rules_of file buffer
+    pub refused-by : (r : Refusal) → rules_refusal file ≡ number_of r → written (Err r) buffer ≡ from_rules_of file buffer
     unfolding from_rules_of
-    refused-by r e some a = refused-before (table_for s) buffer (λ z. some (sym e ∙ z)) (a.0 ∙ sym e, a.1)
+    refused-by r e = refused-before (table_for s) buffer r (sym e)
 
     -- The table of its functions.
     pub tabled : WellFormed file → shares_of s ≡ Apart → gaps_of s ≡ Covered →

@@ -1,12 +1,15 @@
 // Which inputs fit a rule, and the outputs' truth tables, rule by rule: questions 19 and 20.
-ghost use Rattle.std.specs.Prelude.{◌≡◌, cond, ◌*◌, ◌-◌, ◌≤◌, ◌<◌, length, get_or, set};
+ghost use Rattle.std.specs.Prelude.{◌≡◌, cond, ◌*◌, ◌-◌, ◌^◌, ◌≤◌, ◌<◌, length, get_or, set};
 ghost use Rattle.std.specs.Int.Bits.{bit_or};
+ghost use Rattle.fields.specs.Bounded.{all};
 ghost use Rattle.rulesheet.specs.Rules.{rule_sheet_in, has_output};
+ghost use Rattle.cubes.specs.Inner.Cubes.{CubeOf};
 ghost use Rattle.coverage.specs.declared.cover.Shares.TheVariants.{Apart};
 ghost use Rattle.coverage.specs.Coverage.{shares_of};
-ghost use Rattle.coverage.specs.Inner.Gathering.{Marked, PutIf, AddedIf, Lies, Gathered, Empty, gaps_by};
+ghost use Rattle.coverage.specs.Inner.Gathering.{Marked, PutIf, AddedIf, Gathered, Begun, is_full, gaps_by};
 
 use cubes::Cube;
+use rulesheet::Sheet;
 
 // Question 19's answer.
 #[derive(Clone, Copy, Drop)]
@@ -22,6 +25,26 @@ pub enum Gaps {
     Open,
 }
 
+// A rule: the inputs that fit it, and its permit word.
+#[derive(Clone, Copy, Drop)]
+struct Rule {
+    cube: Cube,
+    word: u8,
+}
+
+impl Rule {
+    // The rule that a value says: a byte for each of n contacts, then the word.
+    fn of(value: &[u8], n: usize) -> Self
+        requires { (n ≤ 12) × (n < length value.now) }
+        ensures { CubeOf n value.now result.cube × (result.word ≡ get_or value.now n 0) }
+    {
+        Rule {
+            cube: cubes::cube_of(value, n),
+            word: value[n],
+        }
+    }
+}
+
 // Puts a pattern into a word of a truth table, if a permit word has the table's output.
 fn mark_one(truths: &mut [u64], at: usize, word: u8, j: usize, pattern: u64)
     requires { (j < 8) × (at < length truths.old) × (length truths.old ≤ 512) }
@@ -30,105 +53,106 @@ fn mark_one(truths: &mut [u64], at: usize, word: u8, j: usize, pattern: u64)
     if (word >> j) % 2 == 0 {
         return;
     }
-    truths[at] = truths[at] | pattern;
+    truths[at] |= pattern;
 }
 
-// Puts a pattern into word w of the truth tables of the outputs that a permit word has.
-fn mark(truths: &mut [u64], words: usize, m: usize, w: usize, word: u8, pattern: u64)
-    requires { (m ≤ 8) × (w < words) × (m * words ≤ length truths.old) × (length truths.old ≤ 512) }
-    ensures { Marked words m w word pattern truths.old truths.new }
+// Whether every bit of some words is set.
+fn are_full(words: &[u64]) -> bool
+    ensures { result ≡ all (length words.now) (λ i. is_full (get_or words.now i 0)) }
 {
-    let mut at = w;
-    for j in 0..m {
-        mark_one(truths, at, word, j, pattern);
-        at = at + words;
-    }
+    words.iter().all(|word| *word == bits::ONES)
 }
 
-// Adds the inputs of a cube in word w to those that fit a rule, and to the truth tables of the outputs that its permit word has; or, if one
-// of them fits a rule before, says so.
-fn add_word(
-    cube: Cube,
-    word: u8,
+// The inputs that fit a rule before, and the outputs' truth tables by these rules: so many words of 64 inputs each.
+#[derive(Drop)]
+pub struct Gathering<const N: usize> {
     words: usize,
-    m: usize,
-    w: usize,
-    ruled: &mut [u64],
-    truths: &mut [u64],
-) -> bool
-    requires { (m ≤ 8) × (w < words) × (words ≤ length ruled.old) × (m * words ≤ length truths.old) × (length truths.old ≤ 512) }
-    ensures { PutIf result words m cube word w ruled.old truths.old ruled.new truths.new }
-{
-    if w & cube.words.mask != cube.words.value {
-        return false;
-    }
-    let before = ruled[w];
-    if before & cube.pattern != 0 {
-        return true;
-    }
-    ruled[w] = before | cube.pattern;
-    mark(truths, words, m, w, word, cube.pattern);
-    false
+    outputs: usize,
+    ruled: [u64; 64],
+    pub truths: [u64; N],
+    ghost room: { (outputs ≤ 8) × (words ≤ 64) × (outputs * words ≤ N) × (N ≤ 512) },
 }
 
-// The same in every word, to the first input that fits a rule before.
-fn add_cube(
-    cube: Cube,
-    word: u8,
-    words: usize,
-    m: usize,
-    ruled: &mut [u64],
-    truths: &mut [u64],
-) -> bool
-    requires { (m ≤ 8) × (words ≤ length ruled.old) × (m * words ≤ length truths.old) × (length truths.old ≤ 512) }
-    ensures { AddedIf result words m cube word ruled.old truths.old ruled.new truths.new }
-{
-    for w in 0..words {
-        if add_word(cube, word, words, m, w, ruled, truths) {
-            return true;
+impl<const N: usize> Gathering<N> {
+    // No rule yet.
+    pub fn new(sheet: &Sheet<'_>) -> Self
+        requires { (sheet.now.outputs * 2 ^ (sheet.now.contacts - 6) ≤ N) × (N ≤ 512) }
+        ensures { Begun (rule_sheet_in sheet.now.file.now) result.words result.outputs result.ruled result.truths }
+    {
+        Gathering {
+            words: 1usize << rows::fixed_contacts(sheet.contacts),
+            outputs: sheet.outputs,
+            ruled: [0; 64],
+            truths: [0; N],
         }
     }
-    false
-}
 
-// Question 19: does no input fit two rules? If so, which inputs fit a rule, and the outputs' truth tables.
-pub fn ask_shares(
-    file: &[u8],
-    at: usize,
-    n: usize,
-    fixed: usize,
-    m: usize,
-    count: usize,
-    ruled: &mut [u64],
-    truths: &mut [u64],
-) -> Shares
-    requires { Lies file.now at n m count × (fixed ≡ n - 6) × Empty n m ruled.old truths.old }
-    ensures value { result ≡ shares_of (rule_sheet_in file.now) }
-    ensures gathered { result ≡ Apart → Gathered (rule_sheet_in file.now) count ruled.new truths.new }
-{
-    let words = 1usize << fixed;
-    let mut place = at;
-    for _ in 0..count {
-        let taken = files::take(file, place);
-        let rule = fields::value(file, taken.field);
-        let cube = cubes::cube_of(rule, n);
-        if add_cube(cube, rule[n], words, m, ruled, truths) {
+    // Puts a pattern into word w of the truth tables of the outputs that a permit word has.
+    fn mark(&mut self, w: usize, word: u8, pattern: u64)
+        requires { w < self.old.words }
+        ensures same { (self.new.words ≡ self.old.words) × (self.new.outputs ≡ self.old.outputs) × (self.new.ruled ≡ self.old.ruled) }
+        ensures marked { Marked self.old.words self.old.outputs w word pattern self.old.truths self.new.truths }
+    {
+        for j in 0..self.outputs {
+            mark_one(&mut self.truths, j * self.words + w, word, j, pattern);
+        }
+    }
+
+    // Adds the inputs of a rule in word w to those that fit a rule, and to the truth tables of the outputs that it has, if none of them
+    // fits a rule before.
+    fn add_word(&mut self, rule: Rule, w: usize) -> Shares
+        requires { w < self.old.words }
+        ensures same { (self.new.words ≡ self.old.words) × (self.new.outputs ≡ self.old.outputs) }
+        ensures put { PutIf result self.old.words self.old.outputs rule.cube rule.word w self.old.ruled self.old.truths self.new.ruled self.new.truths }
+    {
+        if !rule.cube.words.has(w) {
+            return Shares::Apart;
+        }
+        let before = self.ruled[w];
+        if before & rule.cube.pattern != 0 {
             return Shares::Shared;
         }
-        place = taken.past;
+        self.ruled[w] = before | rule.cube.pattern;
+        self.mark(w, rule.word, rule.cube.pattern);
+        Shares::Apart
     }
-    Shares::Apart
-}
 
-// Question 20: does every input fit a rule? Asked of the words of those that do, so many.
-pub fn ask_gaps(ruled: &[u64], words: usize) -> Gaps
-    requires { words ≤ length ruled.now }
-    ensures { result ≡ gaps_by ruled.now words }
-{
-    for w in 0..words {
-        if ruled[w] != bits::ONES {
-            return Gaps::Open;
+    // The same in every word, to the first input that fits a rule before.
+    fn add(&mut self, rule: Rule) -> Shares
+        ensures same { (self.new.words ≡ self.old.words) × (self.new.outputs ≡ self.old.outputs) }
+        ensures added { AddedIf result self.old.words self.old.outputs rule.cube rule.word self.old.ruled self.old.truths self.new.ruled self.new.truths }
+    {
+        for w in 0..self.words {
+            let Shares::Apart = self.add_word(rule, w) else {
+                return Shares::Shared;
+            };
+        }
+        Shares::Apart
+    }
+
+    // Question 19: does no input fit two rules? If so, all are gathered.
+    pub fn ask_shares(&mut self, sheet: &Sheet<'_>) -> Shares
+        requires { Begun (rule_sheet_in sheet.now.file.now) self.old.words self.old.outputs self.old.ruled self.old.truths }
+        ensures value { result ≡ shares_of (rule_sheet_in sheet.now.file.now) }
+        ensures same { (self.new.words ≡ self.old.words) × (self.new.outputs ≡ self.old.outputs) }
+        ensures gathered { let s = rule_sheet_in sheet.now.file.now in result ≡ Apart → Gathered s s.count self.new.ruled self.new.truths }
+    {
+        for value in sheet.rules() {
+            let Shares::Apart = self.add(Rule::of(value, sheet.contacts)) else {
+                return Shares::Shared;
+            };
+        }
+        Shares::Apart
+    }
+
+    // Question 20: does every input fit a rule?
+    pub fn ask_gaps(&self) -> Gaps
+        ensures { result ≡ gaps_by self.now.ruled self.now.words }
+    {
+        if are_full(&self.ruled[..self.words]) {
+            Gaps::Covered
+        } else {
+            Gaps::Open
         }
     }
-    Gaps::Covered
 }

@@ -3,7 +3,6 @@
 
 mod cover;
 mod service;
-mod writing;
 
 pub use cover::{Gaps, Shares};
 pub use service::from_rules;

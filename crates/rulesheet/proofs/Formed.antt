@@ -13,7 +13,7 @@ use Rattle.fields.specs.Refusals.{framing_number, between}
 use Rattle.fields.proofs.Bounded.{all-at, and_left, and_right}
 use Rattle.files.specs.Header.{contacts_in, contacts_number, contacts_of}
 use Rattle.files.proofs.Heads.{counts}
-use Rattle.rulesheet.specs.declared.form.Form.TheVariants.{Formed, Unformed}
+use Rattle.std.specs.Prelude.{Some, None}
 use Rattle.rulesheet.specs.Rules.{RuleSheet, rule_sheet_of, rule_fields, rule_word, is_outputs, is_rule, are_rules, form_of, form_number}
 
 -- A rule sheet that question 18 lets through.
@@ -94,15 +94,6 @@ module _ (fs : Fields) where
   unfolding form_of
   limited e = go is_formed refl e
     where
-      go : (b : Bool) → is_formed ≡ b → form_number (cond b (Formed s.contacts s.outputs s.count) Unformed) ≡ 0 → Limited s
+      go : (b : Bool) → is_formed ≡ b → form_number (cond b (Some (record { contacts = s.contacts; outputs = s.outputs; count = s.count })) None) ≡ 0 → Limited s
       go true t e = limited-by t
       go false t e = absurd (omega arith)
-
-  pub formed-counts : {n m count : ℕ} → form_of fs ≡ Formed n m count → (s.contacts ≡ n) × (s.outputs ≡ m) × (s.count ≡ count)
-  unfolding form_of
-  formed-counts {n} {m} {count} e = go is_formed e
-    where
-      go : (b : Bool) → cond b (Formed s.contacts s.outputs s.count) Unformed ≡ Formed n m count →
-          (s.contacts ≡ n) × (s.outputs ≡ m) × (s.count ≡ count)
-      go true e = (cc, cc, cc)
-      go false e = absurd (let z : ◌≡◌ {A = ℕ} 0 1 = cc in omega arith)

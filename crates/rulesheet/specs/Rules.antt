@@ -1,12 +1,10 @@
 -- Rule sheets: question 18, the rules that an input fits, and the word that a rule gives.
-use Rattle.std.specs.Prelude.{ℕ, zero, suc, ◌+◌, ◌/◌, ◌%◌, ◌^◌, Bool, true, not, ◌&&◌, cond, List, ltb, leb, eqb, length, get_or, drop}
+use Rattle.std.specs.Prelude.{ℕ, zero, suc, ◌+◌, ◌/◌, ◌%◌, ◌^◌, Bool, true, not, ◌&&◌, cond, Option, Some, None, List, ltb, leb, eqb, length, get_or, drop}
 use Rattle.fields.specs.Bounded.{all}
 use Rattle.fields.specs.Fields.{Item, Fields, fields_of, item_in, value_in}
 use Rattle.fields.specs.Refusals.{framing_number, between}
 use Rattle.files.specs.Header.{contacts_in, contacts_number, contacts_of}
 use Rattle.diagram.specs.Diagram.{Input}
-use Rattle.rulesheet.specs.declared.form.Form.{Form}
-use Rattle.rulesheet.specs.declared.form.Form.TheVariants.{Formed, Unformed}
 
 -- The counts of contacts, outputs and rules, and each rule: a byte for each contact, contact 0 first, then its word.
 pub record RuleSheet : Type 0 where
@@ -67,9 +65,15 @@ is_rule n m i =
 abbrev pub are_rules : ℕ → ℕ → List Item → Bool
 are_rules n m is = between 1 (length is) 64 && all (length is) (λ i. is_rule n m (item_in is i))
 
+-- The counts of contacts, outputs and rules.
+pub record Counts : Type 0 where
+  pub contacts : ℕ
+  pub outputs : ℕ
+  pub count : ℕ
+
 -- 18. Does the file have whole fields of tags 1 and 8, then 1 to 64 of tag 9, and no more, tag 1 as in question 2, tag 8 of one byte
 -- from 1 to 8, each tag 9 of n bytes of 0, 1 or 2 and a word below 2^m? No: 18.
-unfoldable pub form_of : Fields → Form
+unfoldable pub form_of : Fields → Option Counts
 form_of fs =
     let s = rule_sheet_of fs.items in
     cond
@@ -77,9 +81,9 @@ form_of fs =
     && eqb (contacts_number (contacts_in fs.items)) 0
     && is_outputs (item_in fs.items 1)
     && are_rules s.contacts s.outputs (rule_fields fs.items))
-    (Formed s.contacts s.outputs s.count)
-    Unformed
+    (Some (record { contacts = s.contacts; outputs = s.outputs; count = s.count }))
+    None
 
-abbrev pub form_number : Form → ℕ
-form_number (Formed n m count) = 0
-form_number Unformed = 18
+abbrev pub form_number : Option Counts → ℕ
+form_number (Some c) = 0
+form_number None = 18

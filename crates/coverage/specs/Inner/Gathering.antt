@@ -1,16 +1,15 @@
 -- The inputs that fit the rules of a sheet, and the outputs' truth tables, 64 to a word, as they are put together rule by rule.
-use Rattle.std.specs.Prelude.{ℕ, ◌+◌, ◌*◌, ◌-◌, ◌^◌, ◌≤◌, ◌<◌, ◌≡◌, Bool, true, false, ◌&&◌, ◌||◌, cond, List, eqb, length, get_or}
+use Rattle.std.specs.Prelude.{ℕ, ◌+◌, ◌*◌, ◌-◌, ◌^◌, ◌≤◌, ◌<◌, ◌≡◌, Bool, true, false, ◌&&◌, ◌||◌, cond, List, eqb, get_or}
 use Rattle.std.specs.Int.Bits.{bit_or}
 use Rattle.fields.specs.Bounded.{all, any}
-use Rattle.fields.specs.Fields.{fields_from, fields_of}
-use Rattle.files.specs.Inner.Row.{behind}
 use Rattle.diagram.specs.Diagram.{bit}
 use Rattle.bits.specs.Inner.Bits.{bit_of}
 use Rattle.canonical.specs.Inner.Blocks.{input_at}
 use Rattle.cubes.specs.declared.Cube.{Cube}
 use Rattle.cubes.specs.Inner.Cubes.{is_in}
-use Rattle.rulesheet.specs.declared.form.Form.TheVariants.{Formed}
-use Rattle.rulesheet.specs.Rules.{RuleSheet, has_output, form_of}
+use Rattle.rulesheet.specs.Rules.{RuleSheet, has_output}
+use Rattle.coverage.specs.declared.cover.Shares.{Shares}
+use Rattle.coverage.specs.declared.cover.Shares.TheVariants.{Apart, Shared}
 use Rattle.coverage.specs.declared.cover.Gaps.{Gaps}
 use Rattle.coverage.specs.declared.cover.Gaps.TheVariants.{Covered, Open}
 use Rattle.coverage.specs.Coverage.{fits_rule, fits_two, has_rule}
@@ -41,9 +40,9 @@ pub record Meets (c : Cube) (v : ℕ) (ruled : List ℕ) : Type 0 where
   pub within : place < 64
   pub both : (is_in c v place ≡ true) × (bit_of place (get_or ruled v 0) ≡ 1)
 
-abbrev pub PutIf : Bool → ℕ → ℕ → Cube → ℕ → ℕ → List ℕ → List ℕ → List ℕ → List ℕ → Type 0
-PutIf true words m c word v ruled truths ruled' truths' = Meets c v ruled
-PutIf false words m c word v ruled truths ruled' truths' = Put words m c word v ruled truths ruled' truths'
+abbrev pub PutIf : Shares → ℕ → ℕ → Cube → ℕ → ℕ → List ℕ → List ℕ → List ℕ → List ℕ → Type 0
+PutIf Shared words m c word v ruled truths ruled' truths' = Meets c v ruled
+PutIf Apart words m c word v ruled truths ruled' truths' = Put words m c word v ruled truths ruled' truths'
 
 -- The same in the first words, so many; the others are as they were.
 pub record Added (words m : ℕ) (c : Cube) (word count : ℕ) (ruled truths ruled' truths' : List ℕ) : Type 0 where
@@ -54,14 +53,9 @@ pub record Added (words m : ℕ) (c : Cube) (word count : ℕ) (ruled truths rul
   pub ruled-rest : (w : ℕ) → count ≤ w → get_or ruled' w 0 ≡ get_or ruled w 0
   pub truths-rest : (j w : ℕ) → j < m → w < words → count ≤ w → get_or truths' (j * words + w) 0 ≡ get_or truths (j * words + w) 0
 
-abbrev pub AddedIf : Bool → ℕ → ℕ → Cube → ℕ → List ℕ → List ℕ → List ℕ → List ℕ → Type 0
-AddedIf true words m c word ruled truths ruled' truths' = (w : ℕ) × (w < words) × Meets c w ruled
-AddedIf false words m c word ruled truths ruled' truths' = Added words m c word words ruled truths ruled' truths'
-
--- The place of a well-formed sheet's rules in its file.
-pub record Lies (file : List ℕ) (at n m count : ℕ) : Type 0 where
-  pub formed : form_of (fields_of file) ≡ Formed n m count
-  pub rules : fields_from file at ≡ behind 2 (fields_of file)
+abbrev pub AddedIf : Shares → ℕ → ℕ → Cube → ℕ → List ℕ → List ℕ → List ℕ → List ℕ → Type 0
+AddedIf Shared words m c word ruled truths ruled' truths' = (w : ℕ) × (w < words) × Meets c w ruled
+AddedIf Apart words m c word ruled truths ruled' truths' = Added words m c word words ruled truths ruled' truths'
 
 -- What is worked out after the first rules, so many: which inputs fit one, and the outputs' values; no input fits two of them.
 pub record Gathered (s : RuleSheet) (count : ℕ) (ruled truths : List ℕ) : Type 0 where
@@ -79,7 +73,8 @@ is_full word = all 64 (λ k. eqb (bit_of k word) 1)
 abbrev pub gaps_by : List ℕ → ℕ → Gaps
 gaps_by ruled words = cond (all words (λ w. is_full (get_or ruled w 0))) Covered Open
 
--- Buffers that are empty, and long enough.
-pub record Empty (n m : ℕ) (ruled truths : List ℕ) : Type 0 where
+-- Where no rule is gathered yet: the size of a truth table and the count of outputs, and no bit is set.
+pub record Begun (s : RuleSheet) (words outputs : ℕ) (ruled truths : List ℕ) : Type 0 where
+  pub size : words ≡ 2 ^ (s.contacts - 6)
+  pub count : outputs ≡ s.outputs
   pub none : (i : ℕ) → (get_or ruled i 0 ≡ 0) × (get_or truths i 0 ≡ 0)
-  pub room : (2 ^ (n - 6) ≤ length ruled) × (m * 2 ^ (n - 6) ≤ length truths) × (length truths ≤ 512)

@@ -38,9 +38,12 @@ pub record High (fixed count : ℕ) (rule : List ℕ) (mask value : ℕ) : Type 
   pub fit : (w : ℕ) →
       eqb (bit_and (w / 2 ^ (fixed - count)) mask) value ≡ all count (λ i. accepts (get_or rule i 0) (input_of w (fixed - suc i)))
 
--- Whether the input at bit k of word w is in a cube.
+-- Whether a cube has word w, and the input at bit k of it.
+abbrev pub has_word : Cube → ℕ → Bool
+has_word c w = eqb (bit_and w c.words.mask) c.words.value
+
 abbrev pub is_in : Cube → ℕ → ℕ → Bool
-is_in c w k = eqb (bit_and w c.words.mask) c.words.value && eqb (bit_of k c.pattern) 1
+is_in c w k = has_word c w && eqb (bit_of k c.pattern) 1
 
 -- The cube of a rule: the inputs that fit it.
 pub record CubeOf (n : ℕ) (rule : List ℕ) (c : Cube) : Type 0 where

@@ -2,37 +2,44 @@
 use native.Mathlib.Omega.{arith}
 use Prim.Native.Nat.{ℕ, ◌*◌, ◌%◌, ◌^◌}
 use mathlib.Core.Path.{◌≡◌, sym, ◌∙◌}
-use borrow.Author.Tests.{eq-eqb, ne_eqb, lt-ltb, le-ltb}
-use lib.ListN.{get_or}
+use borrow.Author.Tests.{tests, eq-eqb, lt-ltb, le-ltb}
+use lib.Dec.{leb}
+use lib.ListN.{get_or, take}
+use Rattle.std.proofs.Common.{rules}
+use Rattle.std.proofs.lemmas.Iterator.{YieldsList-from_slice}
+use Rattle.std.proofs.lemmas.Iterator.Search.{all_from_yields_List}
+use Rattle.fields.specs.Bounded.{all}
 use Rattle.bits.proofs.Bits.{bits-of}
-use Rattle.rulesheet.proofs.Forms.{rule-by}
-use Rattle.rulesheet.proofs.form.is_rule.Goals.{After-shared_slice_known-2-1}
+use Rattle.rulesheet.proofs.Forms.{all_listed, rule-by}
+use Rattle.rulesheet.proofs.form.is_rule.Goals.{After-all}
 use Rattle.rulesheet.proofs.form.is_rule.Goals as goal
 
--- The word, and the bound by a shift.
-abbrev word : After-shared_slice_known-2-1 → ℕ
+-- The test of the bytes, the word, and its bound by a shift.
+sound : (c : After-all) → c.all.result ≡ all c.args.n (λ k. leb (get_or c.value-rule.result.now k 0) 2)
+sound c =
+    all_from_yields_List (λ b. leb b 2) _ _ c.all.result c.all.ensures.ran
+    (YieldsList-from_slice (take c.args.n c.value-rule.result.now) cc) (λ x b q k. search (rules, tests))
+    ∙ all_listed (λ b. leb b 2) c.value-rule.result.now c.args.n (omega arith)
+
+abbrev word : After-all → ℕ
 word c = get_or c.value-rule.result.now c.args.n 0
 
-bound : (c : After-shared_slice_known-2-1) → let m = c.args.m in 1 * 2 ^ m % 2 ^ 64 ≡ 2 ^ m
+bound : (c : After-all) → let m = c.args.m in 1 * 2 ^ m % 2 ^ 64 ≡ 2 ^ m
 bound c = bits-of _ (omega (arith, c.requires.1))
 
-pub returns-then-tag-ne9 : goal.returns-then-tag-ne9
-returns-then-tag-ne9 c = rule-by _ _ _ _ c.value-rule.ensures (simp (ne_eqb _ _ c.if-tag-ne9.true))
-
-pub returns-then-rule-n : goal.returns-then-rule-n
-returns-then-rule-n c = rule-by _ _ _ _ c.value-rule.ensures (simp (eq-eqb _ _ c.if-tag-ne9.false, ne_eqb _ _ c.if-rule-n.true))
-
-pub returns-then-not-are_contacts : goal.returns-then-not-are_contacts
-returns-then-not-are_contacts c =
+pub returns-then-not-all : goal.returns-then-not-all
+returns-then-not-all c =
     rule-by _ _ _ _ c.value-rule.ensures
-    (simp (eq-eqb _ _ c.if-tag-ne9.false, eq-eqb _ _ c.if-rule-n.false, sym c.are_contacts.ensures ∙ c.if-not-are_contacts.true))
+    (simp (eq-eqb _ _ c.if-tag-ne9.false, eq-eqb _ _ c.if-rule-n.false, sym (sound (goal.at.returns-then-not-all c).After-all) ∙ c.if-not-all.true))
 
 pub returns-then-m-word : goal.returns-then-m-word
 returns-then-m-word c =
+    let l = (goal.at.returns-then-m-word c).After-all in
     rule-by _ _ _ _ c.value-rule.ensures
-    (simp (eq-eqb _ _ c.if-tag-ne9.false, eq-eqb _ _ c.if-rule-n.false, sym c.are_contacts.ensures ∙ c.if-not-are_contacts.false, le-ltb (word (goal.at.returns-then-m-word c).After-shared_slice_known-2-1) (2 ^ c.args.m) (omega (arith, c.if-m-word.true, bound (goal.at.returns-then-m-word c).After-shared_slice_known-2-1))))
+    (simp (eq-eqb _ _ c.if-tag-ne9.false, eq-eqb _ _ c.if-rule-n.false, sym (sound l) ∙ c.if-not-all.false, le-ltb (word l) (2 ^ c.args.m) (omega (arith, c.if-m-word.true, bound l))))
 
 pub returns : goal.returns
 returns c =
+    let l = (goal.at.returns c).After-all in
     rule-by _ _ _ _ c.value-rule.ensures
-    (simp (eq-eqb _ _ c.if-tag-ne9.false, eq-eqb _ _ c.if-rule-n.false, sym c.are_contacts.ensures ∙ c.if-not-are_contacts.false, lt-ltb (word (goal.at.returns c).After-shared_slice_known-2-1) (2 ^ c.args.m) (omega (arith, c.if-m-word.false, bound (goal.at.returns c).After-shared_slice_known-2-1))))
+    (simp (eq-eqb _ _ c.if-tag-ne9.false, eq-eqb _ _ c.if-rule-n.false, sym (sound l) ∙ c.if-not-all.false, lt-ltb (word l) (2 ^ c.args.m) (omega (arith, c.if-m-word.false, bound l))))
