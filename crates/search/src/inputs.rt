@@ -11,7 +11,7 @@ ghost use Rattle.search.specs.Inner.Found.{found_in};
 use crate::passes::HeldBoard;
 use crate::{Board, passes};
 use batches::TwoBatches;
-use netlist::{Gate, Hold};
+use netlist::{Gate, Hold, Pair};
 
 // The inputs at which some output's true and false line agree.
 fn agreeing(pairs: &[u8], batches: &[TwoBatches]) -> TwoBatches
@@ -23,8 +23,8 @@ fn agreeing(pairs: &[u8], batches: &[TwoBatches]) -> TwoBatches
 {
     let mut first = 0;
     let mut second = 0;
-    for j in 0..pairs.len() / 4 {
-        let pair = netlist::pair_at(pairs, j);
+    for bytes in pairs.as_chunks::<4>().0 {
+        let pair = Pair::from(bytes);
         let on = batches[usize::from(pair.on)];
         let off = batches[usize::from(pair.off)];
         first |= (on.first ^ off.first) ^ bits::ONES;

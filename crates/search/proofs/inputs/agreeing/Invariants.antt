@@ -1,4 +1,4 @@
--- `inputs::agreeing` meets its contract. The loop's invariant: at each bit the masks tell whether an output before j agrees.
+-- `inputs::agreeing` meets its contract. The loop's invariant: at each bit the masks tell whether an output before this one agrees.
 use Prim.Native.Nat.{ℕ, ◌<◌}
 use mathlib.Core.Path.{◌≡◌}
 use Rattle.fields.specs.Bounded.{any}
@@ -9,8 +9,8 @@ use Rattle.bits.specs.Inner.Bits.{bit_of, bits_of}
 use Rattle.batches.specs.Inner.Batches.{firsts, seconds}
 use Rattle.search.proofs.inputs.agreeing.Given as goal
 
-abbrev pub invariant-loop-j : goal.invariant-loop-j
-invariant-loop-j l = record {
-  first : (k : ℕ) → k < 64 → bit_of k l.first ≡ bit (any l.j (no_code (pairs_of l.pairs) (bits_of k (firsts l.batches))));
-  second : (k : ℕ) → k < 64 → bit_of k l.second ≡ bit (any l.j (no_code (pairs_of l.pairs) (bits_of k (seconds l.batches))));
+abbrev pub invariant-loop-bytes : goal.invariant-loop-bytes
+invariant-loop-bytes l = record {
+  first : (k : ℕ) → k < 64 → bit_of k l.first ≡ bit (any l.bytes-index (no_code (pairs_of l.pairs) (bits_of k (firsts l.batches))));
+  second : (k : ℕ) → k < 64 → bit_of k l.second ≡ bit (any l.bytes-index (no_code (pairs_of l.pairs) (bits_of k (seconds l.batches))));
 }
