@@ -1,4 +1,6 @@
 // Bytes as a program shows them.
+ghost use Rattle.std.specs.Prelude.{◌≡◌, ◌==◌, length, filter};
+
 use crate::spelling;
 use std::fmt;
 
@@ -7,9 +9,14 @@ use std::fmt;
 pub struct Bytes<'a>(pub &'a [u8]);
 
 impl<'a> fmt::Display for Bytes<'a> {
+    ghost use Rattle.std.specs.Prelude.{Some};
+    ghost use Rattle.text.specs.Shown.{bytes_text};
+
+    ghost output = { λ s. Some (bytes_text s.0.now) };
+
     fn fmt<W: fmt::Write>(&self, f: &mut fmt::Formatter<W>) -> fmt::Result {
         let bytes = self.0;
-        for byte in bytes.iter().take(16) {
+        for byte in &bytes[..bytes.len().min(16)] {
             write!(f, " {byte:02x}")?;
         }
         if 16 < bytes.len() {
@@ -24,6 +31,11 @@ impl<'a> fmt::Display for Bytes<'a> {
 pub struct Spelt<'a>(pub &'a [u8]);
 
 impl<'a> fmt::Display for Spelt<'a> {
+    ghost use Rattle.std.specs.Prelude.{Some};
+    ghost use Rattle.text.specs.Shown.{spelt_text};
+
+    ghost output = { λ s. Some (spelt_text s.0.now) };
+
     fn fmt<W: fmt::Write>(&self, f: &mut fmt::Formatter<W>) -> fmt::Result {
         let bytes = self.0;
         if bytes.is_empty() {
@@ -41,6 +53,11 @@ impl<'a> fmt::Display for Spelt<'a> {
 pub struct Signs<'a>(pub &'a [u8]);
 
 impl<'a> fmt::Display for Signs<'a> {
+    ghost use Rattle.std.specs.Prelude.{Some};
+    ghost use Rattle.text.specs.Shown.{signs_text};
+
+    ghost output = { λ s. Some (signs_text s.0.now) };
+
     fn fmt<W: fmt::Write>(&self, f: &mut fmt::Formatter<W>) -> fmt::Result {
         let lent = self.0;
         if lent.is_empty() {
@@ -57,6 +74,8 @@ impl<'a> fmt::Display for Signs<'a> {
 }
 
 // How many lent bytes keep the value that they were lent with.
-pub fn kept(lent: &[u8]) -> usize {
+pub fn kept(lent: &[u8]) -> usize
+    ensures { result ≡ length (filter (λ b. b == 46) lent.now) }
+{
     lent.iter().filter(|byte| **byte == b'.').count()
 }
