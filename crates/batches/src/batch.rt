@@ -1,51 +1,67 @@
-// Batches of 64 inputs: bit k of a line's batch is the line's value at input base + k. Two batches of a line lie side by side, half 0
-// and half 1.
-ghost use Rattle.std.specs.Prelude.{◌≡◌, ◌+◌, ◌*◌, ◌≤◌, ◌<◌, length, get_or};
-ghost use Rattle.netlist.specs.Netlist.{number_at};
-ghost use Rattle.batches.specs.Inner.Batches.{gate_batch, held_batch, hold_of, held_line};
+// Batches of 64 inputs: bit k of a line's batch is the line's value at input base + k.
+ghost use Rattle.std.specs.Prelude.{◌≡◌, ◌<◌, length};
+ghost use Rattle.batches.specs.Inner.Batches.{at, gate_batches, held_batch, held_line, site_number};
 
-// A batch of the line that two bytes name.
-pub fn batch_at(bytes: &[u8], at: usize, half: usize, batches: &[u64]) -> u64
-    requires { (at + 2 ≤ length bytes.now) × (2 * number_at bytes.now at + half < length batches.now) }
-    ensures { result ≡ get_or batches.now (2 * number_at bytes.now at + half) 0 }
-{
-    batches[2 * (netlist::number_at(bytes, at) as usize) + half]
+use netlist::{Gate, Hold};
+
+// A line's two batches: at the 64 inputs from a base on, and at the 64 after them.
+#[derive(Clone, Copy, Drop)]
+pub struct TwoBatches {
+    pub first: u64,
+    pub second: u64,
 }
 
-// The value of the line that two bytes name.
-pub fn value_at(bytes: &[u8], at: usize, lines: &[u8]) -> u8
-    requires { (at + 2 ≤ length bytes.now) × (number_at bytes.now at < length lines.now) }
-    ensures { result ≡ get_or lines.now (number_at bytes.now at) 0 }
-{
-    lines[netlist::number_at(bytes, at) as usize]
+// What a hold can be of: a line, or a pin of its gate.
+#[derive(Clone, Copy, Drop)]
+pub enum Site {
+    Line,
+    FirstPin,
+    SecondPin,
 }
 
-// The batch that a gate makes of those of its sources and that of its kind's constant: a bit is set where two of the three are. So an
-// AND, of kind 0, and an OR, of kind 1, take the same steps.
-pub fn make_batch(batches: &[u64], kind: usize, left: usize, right: usize) -> u64
-    requires { (kind < length batches.now) × (left < length batches.now) × (right < length batches.now) }
-    ensures { result ≡ gate_batch (get_or batches.now kind 0) (get_or batches.now left 0)
-        (get_or batches.now right 0) }
-{
-    let a = batches[left];
-    let b = batches[right];
-    (a & b) | ((a | b) & batches[kind])
+impl Site {
+    // The number that a hold's value byte has for it.
+    pub fn number(self) -> u8
+        ensures { result ≡ site_number self }
+    {
+        match self {
+            Site::Line => 0,
+            Site::FirstPin => 1,
+            Site::SecondPin => 2,
+        }
+    }
 }
 
-// What a line shows, given what its driver makes.
-pub fn show_batch(line: usize, batch: u64, at: usize, made: u64) -> u64
-    ensures { result ≡ held_batch line batch at made }
+// The two batches that a gate makes of those of its sources and those of its kind's constant: a bit is set where two of the three are.
+// So an AND, of kind 0, and an OR, of kind 1, take the same steps.
+pub fn make_batches(batches: &[TwoBatches], gate: Gate) -> TwoBatches
+    requires { (gate.kind < length batches.now) × (gate.left < length batches.now) × (gate.right < length batches.now) }
+    ensures { result ≡ gate_batches (at batches.now gate.kind) (at batches.now gate.left) (at batches.now gate.right) }
 {
-    if line == at { batch } else { made }
+    let kind = batches[usize::from(gate.kind)];
+    let a = batches[usize::from(gate.left)];
+    let b = batches[usize::from(gate.right)];
+    TwoBatches {
+        first: (a.first & b.first) | ((a.first | b.first) & kind.first),
+        second: (a.second & b.second) | ((a.second | b.second) & kind.second),
+    }
+}
+
+// What a line shows, given what its driver makes: the held line what it is held at.
+pub fn show<T: Copy + Drop>(line: usize, held: T, at: usize, made: T) -> T
+    ensures { result ≡ held_batch line held at made }
+{
+    if line == at { held } else { made }
 }
 
 // The line whose site is held: a held line holds every site of it, a held pin one. 0, which nothing drives, if there is none.
-pub fn held_line(line: usize, value: u8, site: u8) -> usize
-    ensures { result ≡ held_line (hold_of line value) site }
+pub fn held_line(hold: Hold, site: Site) -> usize
+    ensures { result ≡ held_line hold (site_number site) }
 {
-    let held = value / 2;
-    if held == 0 {
-        return line;
+    let held = hold.value / 2;
+    if held == 0 || held == site.number() {
+        usize::from(hold.line)
+    } else {
+        0
     }
-    if held == site { line } else { 0 }
 }

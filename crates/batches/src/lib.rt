@@ -3,4 +3,4 @@
 
 mod batch;
 
-pub use batch::{batch_at, held_line, make_batch, show_batch, value_at};
+pub use batch::{Site, TwoBatches, held_line, make_batches, show};

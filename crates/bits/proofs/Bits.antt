@@ -1,5 +1,5 @@
 -- The bits of batches: of AND, of OR, of a batch against all ones and of two batches that agree.
-use Prim.Native.Nat.{ℕ, zero, suc, ◌*◌, ◌/◌, ◌%◌, ◌^◌, ◌<◌, min, max}
+use Prim.Native.Nat.{ℕ, zero, suc, ◌*◌, ◌-◌, ◌/◌, ◌%◌, ◌^◌, ◌<◌, min, max}
 use native.Mathlib.Nat.{zero-div, one-mul}
 use native.Mathlib.Numerals.{one-add}
 use native.Mathlib.Omega.{arith}
@@ -11,6 +11,8 @@ use lib.Bits.{bit_and, bit_or, bit_xor, differ, and_step, or_step, xor_step, and
 use lib.Dec.{eqb}
 use lib.ListN.{get_or, get_or-map}
 use lib.Pow.{shl_exact, shr-shr}
+use Rattle.std.specs.Int.{w64}
+use Rattle.std.proofs.lemmas.Nat.Bits.{bit_at_not}
 use Rattle.fields.specs.Bounded.{all}
 use Rattle.fields.proofs.Bounded.{all-at}
 use Rattle.diagram.specs.Diagram.{bit}
@@ -74,6 +76,14 @@ pub bit-flip : (k w : ℕ) (b : Bool) → k < 64 → bit_of k w ≡ bit b → bi
 bit-flip k w b l e = bit-xor k w ones ∙ ap₂ (λ (x y : ℕ). bit (not (eqb x y))) e (bit-ones k l) ∙ go b
   where
     go : (b : Bool) → bit (not (eqb (bit b) 1)) ≡ bit (not b)
+    go true = refl
+    go false = refl
+
+-- The same by `!`, which takes a batch from all ones.
+pub bit-not : (k w : ℕ) (b : Bool) → k < 64 → w < 2 ^ 64 → bit_of k w ≡ bit b → bit_of k (ones - w) ≡ bit (not b)
+bit-not k w b l small e = bit_at_not w64 w k small l ∙ ap (λ (d : ℕ). 1 - d) e ∙ go b
+  where
+    go : (b : Bool) → 1 - bit b ≡ bit (not b)
     go true = refl
     go false = refl
 

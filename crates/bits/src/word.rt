@@ -3,7 +3,7 @@ ghost use Rattle.std.specs.Prelude.{◌≡◌, ℕ, ◌+◌, ◌%◌, ◌≤◌,
 ghost use Rattle.diagram.specs.Diagram.{bit, input_of};
 ghost use Rattle.bits.specs.Inner.Bits.{bit_of};
 
-pub const ONES: u64 = 0xFFFF_FFFF_FFFF_FFFF;
+pub const ONES: u64 = u64::MAX;
 
 // The true rails' batches of contacts 0 to 5, at every base that is a multiple of 64.
 const PATTERNS: [u64; 6] = [

@@ -11,8 +11,10 @@ use borrow.Author.Tests.{eqb-true, eq-eqb}
 use lib.Dec.{eqb}
 use lib.ListN.{length, get_or}
 use lib.Pow.{pow_pos, pow-lt, pow-add, shr-shr, field, mod-mod-pow}
-use Rattle.fields.specs.Bounded.{all}
-use Rattle.fields.proofs.Bounded.{all-at, all_of}
+use Rattle.std.specs.Bool.{Decides}
+use Rattle.std.specs.List.{between}
+use Rattle.std.proofs.lemmas.List.{ext_get_or}
+use Rattle.std.proofs.lemmas.List.Edits.{get_or-between, length-between}
 use Rattle.bits.specs.Inner.Bits.{bit_of}
 use Rattle.bits.proofs.Bits.{bits-same, bits-of}
 use Rattle.functions.specs.Functions.{Function, constant, choice, half, same}
@@ -105,25 +107,41 @@ word-bit : (ws : List ℕ) (start i j : ℕ) → start % 64 ≡ 0 → j < 64 →
     bit_in ws (start + (64 * i + j)) ≡ bit_of j (get_or ws (start / 64 + i) 0)
 word-bit ws start i j e l = ap₂ (λ (k m : ℕ). bit_of k (get_or ws m 0)) (omega arith) (omega arith)
 
-abbrev agree : List ℕ → ℕ → ℕ → ℕ → Bool
-agree ws a b i = eqb (get_or ws (a / 64 + i) 0) (get_or ws (b / 64 + i) 0)
+-- The words of a block of so many.
+abbrev words_at : List ℕ → ℕ → ℕ → List ℕ
+words_at ws k a = between (a / 64) (a / 64 + 2 ^ k) ws
 
-module _ (ws : List ℕ) (words : (i : ℕ) → get_or ws i 0 < 2 ^ 64) (k a b : ℕ) where
-  same-by-words : Block ws (k + 6) a → Block ws (k + 6) b →
-      all (2 ^ k) (agree ws a b) ≡ same (block_at ws (k + 6) a) (block_at ws (k + 6) b)
-  same-by-words ha hb =
-      let ea = whole_words k a ha.whole in
-      let eb = whole_words k b hb.whole in
-      let p : 2 ^ (k + 6) ≡ 2 ^ k * 64 = pow-add 2 k 6 in
-      same_by (block_at ws (k + 6) a) (block_at ws (k + 6) b) (all (2 ^ k) (agree ws a b))
+module _ (ws : List ℕ) (words : (i : ℕ) → get_or ws i 0 < 2 ^ 64) (k a b : ℕ) (ha : Block ws (k + 6) a) (hb : Block ws (k + 6) b) where
+  p : 2 ^ (k + 6) ≡ 2 ^ k * 64
+  p = pow-add 2 k 6
+
+  ea : a % 64 ≡ 0
+  ea = whole_words k a ha.whole
+
+  eb : b % 64 ≡ 0
+  eb = whole_words k b hb.whole
+
+  word_at : (a i : ℕ) → i < 2 ^ k → get_or (words_at ws k a) i 0 ≡ get_or ws (a / 64 + i) 0
+  word_at a i l = get_or-between ws (a / 64) (a / 64 + 2 ^ k) i 0 (omega arith)
+
+  long : (a : ℕ) → a / 64 + 2 ^ k ≤ length ws → length (words_at ws k a) ≡ 2 ^ k
+  long a h = length-between ws (a / 64) (a / 64 + 2 ^ k) h ∙ omega arith
+
+  same-by-words : (r : Bool) → Decides r (words_at ws k a ≡ words_at ws k b) → r ≡ same (block_at ws (k + 6) a) (block_at ws (k + 6) b)
+  same-by-words r d =
+      same_by (block_at ws (k + 6) a) (block_at ws (k + 6) b) r
       (λ e. blocks-same ws (k + 6) a b (λ i l.
       let n : i ≡ 64 * (i / 64) + i % 64 = omega arith in
+      let inside : i / 64 < 2 ^ k = omega (arith, p) in
       ap (λ (i : ℕ). bit_in ws (a + i)) n ∙ word-bit ws a (i / 64) (i % 64) ea (omega arith)
-      ∙ ap (bit_of (i % 64)) (eqb-true _ _ (all-at (agree ws a b) (2 ^ k) e (i / 64) (omega arith)))
+      ∙ ap (bit_of (i % 64)) (sym (word_at a (i / 64) inside) ∙ ap (λ (l : List ℕ). get_or l (i / 64) 0) (d.0 e) ∙ word_at b (i / 64) inside)
       ∙ sym (ap (λ (i : ℕ). bit_in ws (b + i)) n ∙ word-bit ws b (i / 64) (i % 64) eb (omega arith))))
-      (λ e. all_of (agree ws a b) (2 ^ k) (λ i l. eq-eqb _ _
-      (bits-same 64 (get_or ws (a / 64 + i) 0) (get_or ws (b / 64 + i) 0) (words _) (words _) (λ j h.
-      sym (word-bit ws a i j ea h) ∙ blocks-bits ws (k + 6) a b e (64 * i + j) (omega arith) ∙ word-bit ws b i j eb h))))
+      (λ e. d.1 (ext_get_or 0 _ _ (long a (omega (arith, ha.within, p)) ∙ sym (long b (omega (arith, hb.within, p)))) (λ i h.
+      let l : i < 2 ^ k = omega (arith, long a (omega (arith, ha.within, p))) in
+      word_at a i l
+      ∙ bits-same 64 (get_or ws (a / 64 + i) 0) (get_or ws (b / 64 + i) 0) (words _) (words _) (λ j g.
+      sym (word-bit ws a i j ea g) ∙ blocks-bits ws (k + 6) a b e (64 * i + j) (omega (arith, p)) ∙ word-bit ws b i j eb g)
+      ∙ sym (word_at b i l))))
 
 pub bits-few : (left : ℕ) → left < 6 → 2 ^ left < 64
 bits-few left h = pow-lt h
@@ -141,7 +159,8 @@ module _ (ws : List ℕ) (left n : ℕ) (most : 6 ≤ left) (count : n ≡ 2 ^ (
       omega (arith, h.within)
 
   pub same-by-so-many : ((i : ℕ) → get_or ws i 0 < 2 ^ 64) → (a b : ℕ) → Block ws left a → Block ws left b →
-      all n (agree ws a b) ≡ same (block_at ws left a) (block_at ws left b)
-  same-by-so-many words a b ha hb =
+      {r : Bool} → Decides r (between (a / 64) (a / 64 + n) ws ≡ between (b / 64) (b / 64 + n) ws) →
+      r ≡ same (block_at ws left a) (block_at ws left b)
+  same-by-so-many words a b ha hb {r} d =
       let e : left - 6 + 6 ≡ left = omega arith in
-      ap (λ (n : ℕ). all n (agree ws a b)) count ∙ (rw e at (same-by-words ws words (left - 6) a b)) ha hb
+      (rw e at (same-by-words ws words (left - 6) a b)) ha hb r (rw count at d)

@@ -6,16 +6,18 @@ use mathlib.Core.Bool.{Bool, true, false, cond}
 use mathlib.Core.List.{List}
 use lib.ListN.{length, take}
 use lib.Seq.{sets}
+use Rattle.std.proofs.Common.{Some, None, Result, Ok, Err}
 use Rattle.diagram.specs.Diagram.{Input}
 use Rattle.files.specs.declared.room.Room.TheVariants.{Enough, Short}
-use Rattle.files.specs.Room.{Writing, room_of, writing_of}
+use Rattle.files.specs.declared.refusal.Refusal.{Refusal}
+use Rattle.files.specs.declared.refusal.Refusal.TheVariants.{Width, Room}
+use Rattle.files.specs.Room.{room_of, written, writing_of}
 use Rattle.files.proofs.Buffers.{enough, sets_over, taken_back}
 use Rattle.files.proofs.Writing.{refused-before, too_short, written-whole}
 use Rattle.table.specs.Encode.{bytes_of}
 use Rattle.functions.specs.Functions.{Function, functions_of, canonical, is_narrow}
 use Rattle.functions.proofs.Agreeing.{narrow-same, table_same}
 use Rattle.functions.proofs.Trees.{functions-same}
-use Rattle.canonical.specs.declared.layout.Laid.TheVariants.{Whole, Wide}
 use Rattle.canonical.specs.Service.{laid_of, laid_number, tabling_of}
 
 -- Question 17's number.
@@ -25,7 +27,7 @@ narrow_number b = cond b 0 17
 pub laid-number : (n m : ℕ) (f : ℕ → Function) → laid_number (laid_of n m f) ≡ narrow_number (is_narrow n m f)
 laid-number n m f = go (is_narrow n m f)
   where
-    go : (b : Bool) → laid_number (cond b (Whole (length (bytes_of (canonical n m f)))) Wide) ≡ narrow_number b
+    go : (b : Bool) → laid_number (cond b (Some (length (bytes_of (canonical n m f)))) None) ≡ narrow_number b
     go true = refl
     go false = refl
 
@@ -41,39 +43,38 @@ module _ (n m : ℕ) (f : ℕ → Function) where
   abbrev bytes : List ℕ
   bytes = bytes_of (canonical n m f)
 
-  pub whole_is : {k : ℕ} → laid_of n m f ≡ Whole k → (is_narrow n m f ≡ true) × (k ≡ length bytes)
+  pub whole_is : {k : ℕ} → laid_of n m f ≡ Some k → (is_narrow n m f ≡ true) × (k ≡ length bytes)
   whole_is {k} = go (is_narrow n m f) refl
     where
-      go : (b : Bool) → is_narrow n m f ≡ b → cond b (Whole (length bytes)) Wide ≡ Whole k →
+      go : (b : Bool) → is_narrow n m f ≡ b → cond b (Some (length bytes)) None ≡ Some k →
           (is_narrow n m f ≡ true) × (k ≡ length bytes)
       go true e q = (e, cc)
       go false e q = absurd (let z : ◌≡◌ {A = ℕ} 0 1 = cc in omega arith)
 
   -- The start of a file that was laid out is the table's.
-  pub laid-bytes : (zeros : List ℕ) {k : ℕ} {file : List ℕ} → laid_of n m f ≡ Whole k → length bytes ≤ length zeros →
+  pub laid-bytes : (zeros : List ℕ) {k : ℕ} {file : List ℕ} → laid_of n m f ≡ Some k → k ≤ length zeros →
       file ≡ sets zeros 0 bytes → take k file ≡ bytes
-  laid-bytes zeros {k} e room h = ap (take k) h ∙ taken_back bytes zeros room k (whole_is e).1
+  laid-bytes zeros {k} e room h = ap (take k) h ∙ taken_back bytes zeros (omega (arith, (whole_is e).1)) k (whole_is e).1
 
   module _ (buffer : List ℕ) where
-    -- It returns k and l and leaves this.
-    abbrev Tabled : ℕ → ℕ → List ℕ → Type 0
-    Tabled k l after = ◌≡◌ {A = Writing} (record { refusal = k; length = l; buffer = after }) (tabling_of n m f buffer)
+    -- It returns this and leaves this.
+    abbrev Tabled : Result ℕ Refusal → List ℕ → Type 0
+    Tabled result after = written result after ≡ tabling_of n m f buffer
 
-    pub tabled-wide : {k l : ℕ} → laid_of n m f ≡ Wide → (k ≡ 17) × (l ≡ 0) → Tabled k l buffer
+    pub tabled-wide : laid_of n m f ≡ None → Tabled (Err Width) buffer
     unfolding tabling_of
-    tabled-wide e a =
-        refused-before bytes buffer (λ z. absurd (omega (arith, ap laid_number e))) (a.0 ∙ sym (ap laid_number e), a.1)
+    tabled-wide e = refused-before bytes buffer Width (sym (ap laid_number e))
 
-    module _ {k : ℕ} (e : laid_of n m f ≡ Whole k) where
+    module _ {k : ℕ} (e : laid_of n m f ≡ Some k) where
       number : laid_number (laid_of n m f) ≡ 0
       number = ap laid_number e
 
-      pub tabled-short : {r l : ℕ} → room_of k (length buffer) ≡ Short → (r ≡ 9) × (l ≡ 0) → Tabled r l buffer
+      pub tabled-short : room_of k (length buffer) ≡ Short → Tabled (Err Room) buffer
       unfolding tabling_of
-      tabled-short q a =
-          too_short bytes buffer (rw (whole_is e).1 at q) a ∙ ap (λ (j : ℕ). writing_of j bytes buffer) (sym number)
+      tabled-short q =
+          too_short bytes buffer (rw (whole_is e).1 at q) ∙ ap (λ (j : ℕ). writing_of j bytes buffer) (sym number)
 
-      pub tabled-whole : {after : List ℕ} → room_of k (length buffer) ≡ Enough → after ≡ sets buffer 0 bytes → Tabled 0 k after
+      pub tabled-whole : {after : List ℕ} → room_of k (length buffer) ≡ Enough → after ≡ sets buffer 0 bytes → Tabled (Ok k) after
       unfolding tabling_of
       tabled-whole q a =
           let size = (whole_is e).1 in
@@ -86,7 +87,7 @@ pub tabling-same : (n m : ℕ) (f g : ℕ → Function) (buffer : List ℕ) → 
     tabling_of n m f buffer ≡ tabling_of n m g buffer
 unfolding tabling_of
 tabling-same n m f g buffer agree =
-    ap₂ (λ (b : Bool) (bytes : List ℕ). writing_of (laid_number (cond b (Whole (length bytes)) Wide)) bytes buffer)
+    ap₂ (λ (b : Bool) (bytes : List ℕ). writing_of (laid_number (cond b (Some (length bytes)) None)) bytes buffer)
     (narrow-same n m f g agree) (table_same n m f g agree)
 
 -- Values that agree, and counts that are the same.

@@ -1,67 +1,53 @@
 -- A search through blocks for one that is the same: where it ends is the block's place.
-use Prim.Native.Nat.{ℕ, zero, suc, ◌≤◌, ◌<◌}
-use native.Mathlib.Decide.{dec_lt}
+use Prim.Native.Nat.{ℕ, ◌<◌}
+use native.Mathlib.Numerals.{one-add}
 use native.Mathlib.Omega.{arith}
-use mathlib.Core.Path.{◌≡◌, sym, ap, ◌∙◌}
-use mathlib.Core.Logic.{by_cases}
+use mathlib.Core.Path.{◌≡◌, refl, sym, ap, ◌∙◌}
 use mathlib.Core.Bool.{Bool, true, false, cond}
-use mathlib.Core.List.{List, [], ◌∷◌}
-use lib.ListN.{length, get_or, take, length-map, get_or-map}
-use lib.Seq.{length-take-le, get_or-take}
+use mathlib.Core.List.{List}
+use borrow.Author.Tests.{ltb-true, ltb-false}
+use lib.Dec.{ltb}
+use lib.ListN.{length, get_or, length-map, get_or-map}
+use Rattle.std.proofs.Common.{Some, None}
+use Rattle.std.proofs.lemmas.List.Recursion.{is_position_or_len}
+use Rattle.std.specs.List.{position, position_or_len}
 use Rattle.functions.specs.Functions.{Function, same, place}
-use Rattle.functions.proofs.Places.{same_true, same_refl, same_false, place-most, place_is}
+use Rattle.functions.proofs.Places.{place-most}
 use Rattle.canonical.specs.Inner.Blocks.{block_at, blocks_at}
 
--- A function's place is not past one at which it stands.
-place-first : (fs : List Function) (f d : Function) (i : ℕ) → i < length fs → get_or fs i d ≡ f → place fs f ≤ i
-unfolding place
-place-first [] f d i h e = absurd (omega arith)
-place-first (g ∷ gs) f d zero h e = rw (ap (same g) (sym e) ∙ same_refl g) (omega arith)
-place-first (g ∷ gs) f d (suc i) h e = go (same g f) (place-first gs f d i (omega arith) e)
-  where
-    go : (b : Bool) → place gs f ≤ i → cond b 0 (suc (place gs f)) ≤ suc i
-    go true r = omega arith
-    go false r = omega arith
+module _ (ws : List ℕ) (left : ℕ) where
+  pub length-blocks : (starts : List ℕ) → length (blocks_at ws left starts) ≡ length starts
+  length-blocks starts = length-map starts (block_at ws left)
 
--- None before a place is the same.
-module _ (fs : List Function) (f d : Function) (u : ℕ) (none : (i : ℕ) → i < u → same (get_or fs i d) f ≡ false) where
-  none_before : u ≤ length fs → u ≤ place fs f
-  none_before h =
-      by_cases (dec_lt (place fs f) u)
-      (λ l. absurd (same_false (get_or fs (place fs f) d) f (none (place fs f) l) (place_is fs f d (omega arith))))
-      (λ l. omega arith)
+  pub block_of : (starts : List ℕ) (i : ℕ) → get_or (blocks_at ws left starts) i (block_at ws left 0) ≡ block_at ws left (get_or starts i 0)
+  block_of starts i = get_or-map (block_at ws left) starts i 0
 
-  place-met : u < length fs → same (get_or fs u d) f ≡ true → u ≡ place fs f
-  place-met h e =
-      let l = none_before (omega arith) in
-      let m = place-first fs f d u h (same_true (get_or fs u d) f e) in
-      omega arith
+  module _ (f : Function) where
+    abbrev is : ℕ → Bool
+    is s = same (block_at ws left s) f
 
-  place_none : u ≡ length fs → u ≡ place fs f
-  place_none h =
-      let l = none_before (omega arith) in
-      let m = place-most fs f in
-      omega arith
+    place-is : (starts : List ℕ) → place (blocks_at ws left starts) f ≡ position_or_len is starts
+    unfolding place
+    place-is starts = is_position_or_len (λ (l : List ℕ). place (blocks_at ws left l) f) is refl
+        (λ x xs. ap (cond (is x) 0) (sym (one-add (place (blocks_at ws left xs) f)))) starts
 
-module _ (ws : List ℕ) (left count : ℕ) (starts : List ℕ) where
-  pub length-blocks : count ≤ length starts → length (blocks_at ws left count starts) ≡ count
-  length-blocks h = length-map (take count starts) (block_at ws left) ∙ length-take-le count starts h
+    module _ (starts : List ℕ) where
+      pub found-at : (u : ℕ) → position is starts ≡ Some u → (u < length starts) × (u ≡ place (blocks_at ws left starts) f)
+      found-at u = go (ltb (position_or_len is starts) (length starts)) refl
+        where
+          go : (b : Bool) → ltb (position_or_len is starts) (length starts) ≡ b → cond b (Some (position_or_len is starts)) None ≡ Some u →
+              (u < length starts) × (u ≡ place (blocks_at ws left starts) f)
+          go true w e =
+              let q : position_or_len is starts ≡ u = cc in
+              (omega (arith, ltb-true (position_or_len is starts) (length starts) w), sym q ∙ sym (place-is starts))
+          go false w e = cc
 
-  pub block_of : (i : ℕ) → i < count → get_or (blocks_at ws left count starts) i (block_at ws left 0) ≡ block_at ws left (get_or starts i 0)
-  block_of i h = get_or-map (block_at ws left) (take count starts) i 0 ∙ ap (block_at ws left) (get_or-take count starts i 0 h)
-
-  module _ (f : Function) (u : ℕ) (listed : count ≤ length starts)
-      (none : (i : ℕ) → i < u → same (block_at ws left (get_or starts i 0)) f ≡ false) where
-    at_block : u ≤ count → (i : ℕ) → i < u → same (get_or (blocks_at ws left count starts) i (block_at ws left 0)) f ≡ false
-    at_block h i l = ap (λ (g : Function). same g f) (block_of i (omega arith)) ∙ none i l
-
-    pub found-at : u < count → same (block_at ws left (get_or starts u 0)) f ≡ true → u ≡ place (blocks_at ws left count starts) f
-    found-at h e =
-        let l = length-blocks listed in
-        place-met (blocks_at ws left count starts) f (block_at ws left 0) u (at_block (omega arith)) (omega arith)
-        (ap (λ (g : Function). same g f) (block_of u h) ∙ e)
-
-    pub found_none : u ≡ count → count ≡ place (blocks_at ws left count starts) f
-    found_none h =
-        let l = length-blocks listed in
-        sym h ∙ place_none (blocks_at ws left count starts) f (block_at ws left 0) u (at_block (omega arith)) (omega arith)
+      pub found_none : position is starts ≡ None → length starts ≡ place (blocks_at ws left starts) f
+      found_none = go (ltb (position_or_len is starts) (length starts)) refl
+        where
+          go : (b : Bool) → ltb (position_or_len is starts) (length starts) ≡ b → cond b (Some (position_or_len is starts)) None ≡ None →
+              length starts ≡ place (blocks_at ws left starts) f
+          go true w e = cc
+          go false w e =
+              let most = place-most (blocks_at ws left starts) f in
+              omega (arith, most, length-blocks starts, place-is starts, ltb-false (position_or_len is starts) (length starts) w)

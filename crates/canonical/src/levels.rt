@@ -1,97 +1,119 @@
 // A level of the table: its functions in the sequence of their first mention, each by the place of a block that is its truth table.
-ghost use Rattle.std.specs.Prelude.{◌≡◌, ℕ, ◌+◌, ◌*◌, ◌/◌, ◌%◌, ◌^◌, ◌≤◌, ◌<◌, [], length, get_or};
-ghost use Rattle.functions.specs.Functions.{place};
-ghost use Rattle.canonical.specs.Inner.Blocks.{block_at, blocks_at, level_at, width_of, Block, Blocks, Numbered};
+ghost use Rattle.std.specs.Prelude.{◌≡◌, ℕ, List, [], ◌∷◌, ◌++◌, ◌+◌, ◌*◌, ◌/◌, ◌%◌, ◌^◌, ◌≤◌, ◌<◌, length, get_or, take, position, is_some, MatchOption, IfSome};
+ghost use Rattle.functions.specs.Functions.{same};
+ghost use Rattle.canonical.specs.Inner.Blocks.{block_at, level_at, is_few, Block, Blocks, Numbered};
 
-use crate::blocks;
+use crate::blocks::Truths;
+use std::marker::Model;
 
-// The place of a block among so many others, the first that is the same; or their count.
-fn find(truths: &[u64], left: usize, firsts: &[usize], count: usize, start: usize) -> usize
-    requires { (left ≤ 12) × Blocks truths.now left count firsts.now × Block truths.now left start }
-    ensures { result ≡ place (blocks_at truths.now left count firsts.now)
-        (block_at truths.now left start) }
-{
-    for u in 0..count {
-        if blocks::same(truths, left, firsts[u], start) {
-            return u;
+// The places of a level's functions, at most eight.
+#[derive(Drop)]
+pub struct Level {
+    starts: [usize; 8],
+    width: usize,
+}
+
+impl Model for Level {
+    ghost Value = { List ℕ };
+
+    ghost view = { λ l. take l.width l.starts };
+
+    ghost invariant = { λ l. l.width ≤ 8 };
+}
+
+impl Level {
+    // No function yet.
+    fn new() -> Self
+        ensures { result ≡ [] }
+    {
+        Level {
+            starts: [0; 8],
+            width: 0,
         }
     }
-    count
-}
 
-// Numbers so many mentions of functions of a level, and lists the places of those first mentioned; 9 stands for more than eight.
-fn number(
-    truths: &[u64],
-    left: usize,
-    mentions: &[usize],
-    count: usize,
-    firsts: &mut [usize],
-    file: &mut [u8],
-    at: usize,
-) -> usize
-    requires { (1 ≤ left) × (left ≤ 12) × Blocks truths.now left count mentions.now × (length firsts.old ≡ 8)
-        × (count ≤ 16) × (at + count ≤ length file.old) }
-    ensures value { result ≡ width_of left (level_at truths.now left mentions.now count) }
-    ensures numbered { result ≤ 8 → Numbered truths.now left count mentions.now at file.old
-        file.new firsts.new }
-{
-    let mut width: usize = 0;
-    for k in 0..count {
-        let start = mentions[k];
-        let found = find(truths, left, firsts, width, start);
-        if found == width {
-            if width == 8 {
-                return 9;
-            }
-            firsts[width] = start;
-            width += 1;
+    // The places.
+    pub fn starts(&self) -> &[usize]
+        ensures are { result.now ≡ self.now }
+        ensures few { length self.now ≤ 8 }
+    {
+        &self.starts[..self.width]
+    }
+
+    // Lists a function after the others, and gives its number, or none where there are eight already.
+    fn push(&mut self, start: usize) -> Option<usize>
+        ensures { MatchOption result (8 ≤ length self.old) (λ u. (u ≡ length self.old) × (length self.old < 8) × (self.new ≡ self.old ++ start ∷ [])) }
+    {
+        let number = self.width;
+        if number == 8 {
+            return None;
         }
-        file[at + k] = found as u8;
+        self.starts[number] = start;
+        self.width = number + 1;
+        Some(number)
     }
-    width
+
+    // The halves of the level's blocks, each half of 2^left bits: one block after the other, the first half first.
+    pub fn halves(&self, left: usize) -> [usize; 16]
+        requires { (left ≤ 11) × ((i : ℕ) → i < length self.now → get_or self.now i 0 < 32768) }
+        ensures { (k : ℕ) → k < 2 * length self.now → get_or result k 0 ≡ get_or self.now (k / 2) 0 + k % 2 * 2 ^ left }
+    {
+        let mut halves = [0usize; 16];
+        for (u, start) in self.starts().iter().enumerate() {
+            halves[2 * u] = *start;
+            halves[2 * u + 1] = *start + (1 << left);
+        }
+        halves
+    }
 }
 
-// Numbers so many mentions of constants, by their values.
-fn number_constants(truths: &[u64], mentions: &[usize], count: usize, file: &mut [u8], at: usize)
-    requires { Blocks truths.now 0 count mentions.now × (at + count ≤ length file.old) }
-    ensures { Numbered truths.now 0 count mentions.now at file.old file.new [] }
-{
-    for k in 0..count {
-        file[at + k] = blocks::bit(truths, mentions[k]);
+impl Truths<'_> {
+    // The place of a block among others, the first that is the same.
+    fn find(self, starts: &[usize], start: usize) -> Option<usize>
+        requires { Blocks self.words.now self.left starts.now × Block self.words.now self.left start }
+        ensures { result ≡ position (λ s. same (block_at self.entry.words.now self.entry.left s) (block_at self.entry.words.now self.entry.left start)) starts.now }
+    {
+        starts.iter().position(|other| self.same(*other, start))
     }
-}
 
-// Numbers so many mentions of a level whose functions are blocks of 2^left bits.
-pub fn enter(
-    truths: &[u64],
-    left: usize,
-    mentions: &[usize],
-    count: usize,
-    firsts: &mut [usize],
-    file: &mut [u8],
-    at: usize,
-) -> usize
-    requires { (left ≤ 12) × Blocks truths.now left count mentions.now × (length firsts.old ≡ 8)
-        × (count ≤ 16) × (at + count ≤ length file.old) }
-    ensures value { result ≡ width_of left (level_at truths.now left mentions.now count) }
-    ensures numbered { result ≤ 8 → Numbered truths.now left count mentions.now at file.old
-        file.new firsts.new }
-{
-    if left == 0 {
-        number_constants(truths, mentions, count, file, at);
-        return 0;
+    // Numbers mentions of functions of a level, and lists those first mentioned; none if they are more than eight.
+    fn number(self, mentions: &[usize], numbers: &mut [u8]) -> Option<Level>
+        requires { (1 ≤ self.left) × Blocks self.words.now self.left mentions.now
+            × (length numbers.old ≡ length mentions.now) }
+        ensures value { is_some result ≡ is_few self.entry.left (level_at self.entry.words.now self.entry.left mentions.now) }
+        ensures numbered { IfSome result (λ level. Numbered self.entry.words.now self.entry.left mentions.now numbers.new level) }
+    {
+        let mut level = Level::new();
+        for (k, start) in mentions.iter().enumerate() {
+            let number = match self.find(level.starts(), *start) {
+                Some(number) => number,
+                None => level.push(*start)?,
+            };
+            numbers[k] = number as u8;
+        }
+        Some(level)
     }
-    number(truths, left, mentions, count, firsts, file, at)
-}
 
-// The halves of so many blocks, each half of 2^left bits: one block after the other, the first half first.
-pub fn split(firsts: &[usize], count: usize, left: usize, mentions: &mut [usize])
-    requires { (left ≤ 11) × (count ≤ 8) × (count ≤ length firsts.now) × (length mentions.old ≡ 16)
-        × ((i : ℕ) → i < count → get_or firsts.now i 0 < 32768) }
-    ensures { (k : ℕ) → k < 2 * count →
-        get_or mentions.new k 0 ≡ get_or firsts.now (k / 2) 0 + k % 2 * 2 ^ left }
-{
-    for k in 0..2 * count {
-        mentions[k] = firsts[k / 2] + ((k % 2) << left);
+    // Numbers mentions of constants, by their values.
+    fn number_constants(self, mentions: &[usize], numbers: &mut [u8])
+        requires { Blocks self.words.now 0 mentions.now × (length numbers.old ≡ length mentions.now) }
+        ensures { Numbered self.entry.words.now 0 mentions.now numbers.new [] }
+    {
+        for (k, start) in mentions.iter().enumerate() {
+            numbers[k] = self.bit(*start);
+        }
+    }
+
+    // Numbers mentions of a level, and lists its functions where they are not constants; none if they are more than eight.
+    pub fn enter(self, mentions: &[usize], numbers: &mut [u8]) -> Option<Level>
+        requires { Blocks self.words.now self.left mentions.now × (length numbers.old ≡ length mentions.now) }
+        ensures value { is_some result ≡ is_few self.entry.left (level_at self.entry.words.now self.entry.left mentions.now) }
+        ensures numbered { IfSome result (λ level. Numbered self.entry.words.now self.entry.left mentions.now numbers.new level) }
+    {
+        if self.left == 0 {
+            self.number_constants(mentions, numbers);
+            return Some(Level::new());
+        }
+        self.number(mentions, numbers)
     }
 }

@@ -5,4 +5,4 @@ mod blocks;
 mod layout;
 mod levels;
 
-pub use layout::{Laid, write};
+pub use layout::write;

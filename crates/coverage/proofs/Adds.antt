@@ -37,7 +37,7 @@ gains-chosen false k a pattern = gains-none _ (and-false (eqb (bit_of k pattern)
 -- One word.
 module _ (words m : ℕ) (c : Cube) (word v : ℕ) (ruled truths : List ℕ) where
   -- It has none of the cube's inputs.
-  pub put-none : (bit_and v c.mask ≡ c.value → ⊥) → Put words m c word v ruled truths ruled truths
+  pub put-none : (bit_and v c.words.mask ≡ c.words.value → ⊥) → Put words m c word v ruled truths ruled truths
   put-none ne =
       record {
         some = λ k l. gains-none (is_in c v k) (out k) refl;
@@ -50,7 +50,7 @@ module _ (words m : ℕ) (c : Cube) (word v : ℕ) (ruled truths : List ℕ) whe
       out : (k : ℕ) → is_in c v k ≡ false
       out k = ap (λ (b : Bool). b && eqb (bit_of k c.pattern) 1) (ne_eqb _ _ ne)
 
-  module _ (fit : bit_and v c.mask ≡ c.value) where
+  module _ (fit : bit_and v c.words.mask ≡ c.words.value) where
     in-cube : (k : ℕ) → is_in c v k ≡ eqb (bit_of k c.pattern) 1
     in-cube k = ap (λ (b : Bool). b && eqb (bit_of k c.pattern) 1) (eq-eqb _ _ fit)
 

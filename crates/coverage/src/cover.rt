@@ -59,7 +59,7 @@ fn add_word(
     requires { (m ≤ 8) × (w < words) × (words ≤ length ruled.old) × (m * words ≤ length truths.old) × (length truths.old ≤ 512) }
     ensures { PutIf result words m cube word w ruled.old truths.old ruled.new truths.new }
 {
-    if w & cube.mask != cube.value {
+    if w & cube.words.mask != cube.words.value {
         return false;
     }
     let before = ruled[w];
@@ -111,7 +111,7 @@ pub fn ask_shares(
     for _ in 0..count {
         let taken = files::take(file, place);
         let rule = fields::value(file, taken.field);
-        let cube = cubes::cube_of(rule, n, fixed);
+        let cube = cubes::cube_of(rule, n);
         if add_cube(cube, rule[n], words, m, ruled, truths) {
             return Shares::Shared;
         }

@@ -6,7 +6,7 @@ use mathlib.Core.Path.{◌≡◌, refl, sym, ap, ap₂, ◌∙◌}
 use mathlib.Core.Bool.{Bool, true, false, not, ◌&&◌}
 use mathlib.Core.List.{List}
 use borrow.Author.Tests.{eq-eqb, ne_eqb, eqb-true, eqb-false}
-use lib.Bits.{bit_and, bit_xor, and_step, and_zero_r}
+use lib.Bits.{bit_and, and_step, and_zero_r}
 use lib.Dec.{eqb}
 use lib.ListN.{get_or}
 use lib.Pow.{pow-add, shr-shr}
@@ -14,44 +14,47 @@ use Rattle.fields.specs.Bounded.{all}
 use Rattle.fields.proofs.Bounded.{all_none, all-last, all-add, all-agree}
 use Rattle.diagram.specs.Diagram.{bit, input_of}
 use Rattle.bits.specs.Inner.Bits.{bit_of}
-use Rattle.bits.proofs.Bits.{ones, bit-ones, bit-and, bit-flip, bit-both}
+use Rattle.bits.proofs.Bits.{ones, bit-ones, bit-and, bit-not, bit-both}
 use Rattle.bits.proofs.Rails.{low_same}
 use Rattle.canonical.specs.Inner.Blocks.{input_at}
 use Rattle.rulesheet.specs.Rules.{accepts}
-use Rattle.cubes.specs.Inner.Cubes.{Low, mask_digit, value_digit, High, CubeOf}
+use Rattle.cubes.specs.declared.Asked.TheVariants.{Open, Closed}
+use Rattle.cubes.specs.Inner.Cubes.{Low, asked_of, mask_digit, value_digit, High, CubeOf}
 
--- What a byte of a rule accepts.
-module _ (b : Bool) (c : ℕ) where
-  pub accepts-open : c ≡ 0 → accepts c b ≡ not b
-  accepts-open e = ap (λ (c : ℕ). accepts c b) e
+-- What a byte of a rule asks, and what it accepts.
+accepts-open : (c : ℕ) (b : Bool) → asked_of c ≡ Open → accepts c b ≡ not b
+accepts-open zero b e = refl
+accepts-open (suc zero) b e = cc
+accepts-open (suc (suc c)) b e = cc
 
-  pub accepts-closed : c ≡ 1 → accepts c b ≡ b
-  accepts-closed e = ap (λ (c : ℕ). accepts c b) e
-
-pub accepts-either : (b : Bool) (c : ℕ) → (c ≡ 0 → ⊥) → (c ≡ 1 → ⊥) → accepts c b ≡ true
-accepts-either b zero h g = absurd (h refl)
-accepts-either b (suc zero) h g = absurd (g refl)
-accepts-either b (suc (suc c)) h g = refl
+accepts-closed : (c : ℕ) (b : Bool) → asked_of c ≡ Closed → accepts c b ≡ b
+accepts-closed zero b e = cc
+accepts-closed (suc zero) b e = refl
+accepts-closed (suc (suc c)) b e = cc
 
 -- A word without the inputs that a byte does not accept.
-module _ (k word closed : ℕ) (a b : Bool) (h : k < 64) (ea : bit_of k word ≡ bit a) (eb : bit_of k closed ≡ bit b) where
-  pub narrowed-open : bit_of k (bit_and word (bit_xor closed ones)) ≡ bit (a && not b)
-  narrowed-open = bit-and k word (bit_xor closed ones) ∙ ap₂ min ea (bit-flip k closed b h eb) ∙ bit-both a (not b)
+module _ (k word closed c : ℕ) (a b : Bool) (h : k < 64) (ea : bit_of k word ≡ bit a) (eb : bit_of k closed ≡ bit b) where
+  pub narrowed-open : closed < 2 ^ 64 → asked_of c ≡ Open → bit_of k (bit_and word (ones - closed)) ≡ bit (a && accepts c b)
+  narrowed-open small e =
+      bit-and k word (ones - closed) ∙ ap₂ min ea (bit-not k closed b h small eb) ∙ bit-both a (not b)
+      ∙ ap (λ (t : Bool). bit (a && t)) (sym (accepts-open c b e))
 
-  pub narrowed-closed : bit_of k (bit_and word closed) ≡ bit (a && b)
-  narrowed-closed = bit-and k word closed ∙ ap₂ min ea eb ∙ bit-both a b
+  pub narrowed-closed : asked_of c ≡ Closed → bit_of k (bit_and word closed) ≡ bit (a && accepts c b)
+  narrowed-closed e =
+      bit-and k word closed ∙ ap₂ min ea eb ∙ bit-both a b ∙ ap (λ (t : Bool). bit (a && t)) (sym (accepts-closed c b e))
 
 pub low-none : (n fixed : ℕ) (rule : List ℕ) → Low n fixed 0 rule ones
 low-none n fixed rule = record { bits = λ k h. bit-ones k h ∙ sym (ap bit (all_none _)) }
 
-pub low-more : (n fixed i : ℕ) (rule : List ℕ) (pattern pattern' closed : ℕ) → Low n fixed i rule pattern →
-    ((k : ℕ) → k < 64 → bit_of k closed ≡ bit (input_of k (n - suc (fixed + i)))) →
+pub low-more : (n fixed i contact : ℕ) (rule : List ℕ) (pattern pattern' closed : ℕ) → contact ≡ fixed + i → Low n fixed i rule pattern →
+    ((k : ℕ) → k < 64 → bit_of k closed ≡ bit (input_of k (n - suc contact))) →
     ((k : ℕ) (a b : Bool) → k < 64 → bit_of k pattern ≡ bit a → bit_of k closed ≡ bit b →
-    bit_of k pattern' ≡ bit (a && accepts (get_or rule (fixed + i) 0) b)) → Low n fixed (i + 1) rule pattern'
-low-more n fixed i rule pattern pattern' closed l c r =
+    bit_of k pattern' ≡ bit (a && accepts (get_or rule contact 0) b)) → Low n fixed (i + 1) rule pattern'
+low-more n fixed i contact rule pattern pattern' closed e l c r =
     record {
       bits = λ k h.
-          r k (all i (λ i. accepts (get_or rule (fixed + i) 0) (input_of k (n - suc (fixed + i))))) (input_of k (n - suc (fixed + i))) h (l.bits k h) (c k h)
+          r k (all i (λ i. accepts (get_or rule (fixed + i) 0) (input_of k (n - suc (fixed + i))))) (input_of k (n - suc contact)) h (l.bits k h) (c k h)
+          ∙ ap (λ (j : ℕ). bit (all i (λ i. accepts (get_or rule (fixed + i) 0) (input_of k (n - suc (fixed + i)))) && accepts (get_or rule j 0) (input_of k (n - suc j)))) e
           ∙ sym (ap bit (all-last _ i));
     }
 
@@ -132,7 +135,7 @@ bit_is true = refl
 bit_is false = refl
 
 pub cube-of : (n fixed : ℕ) (rule : List ℕ) {mask value pattern : ℕ} → fixed ≡ n - 6 → High fixed fixed rule mask value →
-    Low n fixed (n - fixed) rule pattern → CubeOf n rule (record { mask = mask; value = value; pattern = pattern })
+    Low n fixed (n - fixed) rule pattern → CubeOf n rule (record { words = record { mask = mask; value = value }; pattern = pattern })
 cube-of n fixed rule {mask} {value} {pattern} e high low =
     record {
       fit = λ w k h.

@@ -1,25 +1,70 @@
 // The inputs that fit a rule, as a cube: a word of 64 for the last six contacts, the others by a mask and a value of the word's number.
 #![tactic(auto)]
 
-ghost use Rattle.std.specs.Prelude.{◌≡◌, Bool, ◌&&◌, ℕ, ◌+◌, ◌*◌, ◌-◌, ◌≤◌, ◌<◌, length};
+ghost use Rattle.std.specs.Prelude.{◌≡◌, Bool, ◌&&◌, eqb, ℕ, ◌+◌, ◌*◌, ◌-◌, ◌≤◌, ◌<◌, length};
+ghost use Rattle.std.specs.Int.Bits.{bit_and};
 ghost use Rattle.diagram.specs.Diagram.{bit};
 ghost use Rattle.bits.specs.Inner.Bits.{bit_of};
 ghost use Rattle.rulesheet.specs.Rules.{accepts};
-ghost use Rattle.cubes.specs.Inner.Cubes.{Low, mask_digit, value_digit, High, CubeOf};
+ghost use Rattle.cubes.specs.Inner.Cubes.{Low, asked_of, mask_digit, value_digit, High, CubeOf};
 
-// The inputs at the bits of `pattern`, in each word whose number has `value` where `mask` is set.
+// What a rule's byte asks of a contact.
 #[derive(Clone, Copy, Drop)]
-pub struct Cube {
+enum Asked {
+    Open,
+    Closed,
+    Either,
+}
+
+// The words whose number has `value` where `mask` is set.
+#[derive(Clone, Copy, Drop)]
+pub struct Words {
     pub mask: usize,
     pub value: usize,
+}
+
+// The inputs at the bits of `pattern`, in each of the words.
+#[derive(Clone, Copy, Drop)]
+pub struct Cube {
+    pub words: Words,
     pub pattern: u64,
 }
 
-// A mask and a value.
-#[derive(Clone, Copy, Drop)]
-struct Words {
-    mask: usize,
-    value: usize,
+impl From<u8> for Asked {
+    ghost from_gives = { λ byte asked. asked ≡ asked_of byte };
+
+    fn from(byte: u8) -> Self {
+        match byte {
+            0 => Asked::Open,
+            1 => Asked::Closed,
+            _ => Asked::Either,
+        }
+    }
+}
+
+impl Words {
+    // Whether it has a word, by its number.
+    pub fn has(self, word: usize) -> bool
+        ensures { result ≡ eqb (bit_and word self.mask) self.value }
+    {
+        word & self.mask == self.value
+    }
+
+    // The same with one more contact, which is the lowest.
+    fn with_contact(self, byte: u8) -> Self
+        requires { (self.mask < 64) × (self.value < 64) }
+        ensures { (result.mask ≡ 2 * self.mask + mask_digit byte) × (result.value ≡ 2 * self.value + value_digit byte) }
+    {
+        let (mask, value) = match Asked::from(byte) {
+            Asked::Open => (1, 0),
+            Asked::Closed => (1, 1),
+            Asked::Either => (0, 0),
+        };
+        Words {
+            mask: 2 * self.mask + mask,
+            value: 2 * self.value + value,
+        }
+    }
 }
 
 // A word of inputs without those that a rule's byte for a contact does not fit, given where the contact is closed.
@@ -27,13 +72,11 @@ fn narrow(word: u64, byte: u8, closed: u64) -> u64
     ensures { (k : ℕ) (a b : Bool) → k < 64 → bit_of k word ≡ bit a → bit_of k closed ≡ bit b →
         bit_of k result ≡ bit (a && accepts byte b) }
 {
-    if byte == 0 {
-        return word & (closed ^ bits::ONES);
+    match Asked::from(byte) {
+        Asked::Open => word & !closed,
+        Asked::Closed => word & closed,
+        Asked::Either => word,
     }
-    if byte == 1 {
-        return word & closed;
-    }
-    word
 }
 
 // The inputs of a word that fit a rule by the last contacts.
@@ -42,34 +85,10 @@ fn pattern_of(rule: &[u8], n: usize, fixed: usize) -> u64
     ensures { Low n fixed (n - fixed) rule.now result }
 {
     let mut pattern = bits::ONES;
-    for i in 0..n - fixed {
-        let contact = fixed + i;
+    for contact in fixed..n {
         pattern = narrow(pattern, rule[contact], bits::rail_batch(n - 1 - contact, 0));
     }
     pattern
-}
-
-// A mask and a value with one more contact, which is the lowest.
-fn with_contact(words: Words, byte: u8) -> Words
-    requires { (words.mask < 64) × (words.value < 64) }
-    ensures { (result.mask ≡ 2 * words.mask + mask_digit byte) × (result.value ≡ 2 * words.value + value_digit byte) }
-{
-    if byte == 0 {
-        return Words {
-            mask: 2 * words.mask + 1,
-            value: 2 * words.value,
-        };
-    }
-    if byte == 1 {
-        return Words {
-            mask: 2 * words.mask + 1,
-            value: 2 * words.value + 1,
-        };
-    }
-    Words {
-        mask: 2 * words.mask,
-        value: 2 * words.value,
-    }
 }
 
 // The words that a rule's fixed contacts fit.
@@ -78,21 +97,20 @@ fn words_of(rule: &[u8], fixed: usize) -> Words
     ensures { High fixed fixed rule.now result.mask result.value }
 {
     let mut words = Words { mask: 0, value: 0 };
-    for i in 0..fixed {
-        words = with_contact(words, rule[i]);
+    for byte in &rule[..fixed] {
+        words = words.with_contact(*byte);
     }
     words
 }
 
 // The inputs that fit a rule.
-pub fn cube_of(rule: &[u8], n: usize, fixed: usize) -> Cube
-    requires { (n ≤ 12) × (fixed ≡ n - 6) × (n ≤ length rule.now) }
+pub fn cube_of(rule: &[u8], n: usize) -> Cube
+    requires { (n ≤ 12) × (n ≤ length rule.now) }
     ensures { CubeOf n rule.now result }
 {
-    let words = words_of(rule, fixed);
+    let fixed = n.saturating_sub(6);
     Cube {
-        mask: words.mask,
-        value: words.value,
+        words: words_of(rule, fixed),
         pattern: pattern_of(rule, n, fixed),
     }
 }

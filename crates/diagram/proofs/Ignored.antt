@@ -1,5 +1,5 @@
 -- Some output's value depends on a contact exactly if its level has a node with different edges.
-use Prim.Native.Nat.{ℕ, suc, ◌+◌, ◌*◌, ◌-◌, ◌<◌}
+use Prim.Native.Nat.{ℕ, suc, ◌+◌, ◌-◌, ◌<◌}
 use native.Mathlib.Decide.{ℕ_discrete, dec_lt}
 use native.Mathlib.Nat.{zero-add}
 use native.Mathlib.Omega.{arith}
@@ -7,16 +7,12 @@ use mathlib.Core.Path.{◌≡◌, refl, sym, ap, ◌∙◌}
 use mathlib.Core.Bool.{Bool, true, false, not, true≢false}
 use mathlib.Core.Logic.{by_cases}
 use borrow.Author.Tests.{eqb-false, not-true, ne_eqb}
-use lib.Dec.{eqb}
-use lib.ListN.{get_or}
 use Rattle.fields.specs.Bounded.{any}
 use Rattle.fields.proofs.Bounded.{any_at, any_found}
 use Rattle.diagram.specs.declared.Diagram.{Diagram}
-use Rattle.diagram.specs.Diagram.{width, edge_at, edge, root, Input, path, value_at, Ignores, join}
-use Rattle.diagram.specs.Inner.Bytes.{is_fork}
+use Rattle.diagram.specs.Diagram.{width, edge, is_fork, root, Input, path, value_at, Ignores, join}
 use Rattle.diagram.proofs.Inputs.{join-below, join-from}
 use Rattle.diagram.proofs.Paths.{Branches, path-more, path-same, path_join, path-first, root_in, edge_in_lem, path-in}
-use Rattle.diagram.proofs.Asked.{width_is}
 use Rattle.diagram.proofs.Reached.{reached}
 use Rattle.diagram.proofs.Apart.{apart}
 use Rattle.diagram.proofs.Unique.{Reduced}
@@ -88,16 +84,12 @@ module _ (d : Diagram) (reduced : Reduced d) (i : ℕ) (h : i < d.contacts) wher
               (λ l. past false k (omega arith) ∙ sym (past true k (omega arith)))
 
 -- What the code asks of a level's edges.
-module _ (d : Diagram) (l : ℕ) (below : l < d.contacts) where
+module _ (d : Diagram) (l : ℕ) where
   abbrev asked : Bool
-  asked = any (get_or d.widths l 0) (is_fork d.edges (l * 16))
-
-  forks : asked ≡ any (width d l) (λ u. not (eqb (edge d l u false) (edge d l u true)))
-  unfolding edge_at
-  forks = ap (λ (w : ℕ). any w (is_fork d.edges (l * 16))) (width_is d l below)
+  asked = any (width d l) (is_fork d l)
 
   pub forks-branch : asked ≡ true → Branches d l
-  forks-branch e = let (u, hu, t) = any_found _ _ (sym forks ∙ e) in (u, hu, eqb-false _ _ (not-true _ t))
+  forks-branch e = let (u, hu, t) = any_found _ _ e in (u, hu, eqb-false _ _ (not-true _ t))
 
   pub no-fork : asked ≡ false → Branches d l → ⊥
-  no-fork e (u, hu, ne) = true≢false (sym (forks ∙ any_at _ (width d l) u hu (ap not (ne_eqb _ _ ne))) ∙ e)
+  no-fork e (u, hu, ne) = true≢false (sym (any_at _ (width d l) u hu (ap not (ne_eqb _ _ ne))) ∙ e)

@@ -6,5 +6,7 @@ pub mod Unique
 pub mod Words
 pub mod Loops
 pub mod Turns
+pub mod Bytes
+pub mod Chunks
 pub mod Asked
 pub mod Ignored

@@ -3,8 +3,8 @@ use Prim.Native.Nat.{ℕ, ◌≤◌, ◌<◌}
 use native.Mathlib.Nat.{le_antisymm}
 use mathlib.Core.Path.{◌≡◌, sym}
 use mathlib.Core.Bool.{Bool, true, false}
-use Rattle.fields.specs.Bounded.{all, any}
-use Rattle.fields.proofs.Bounded.{all-not, any_at}
+use Rattle.fields.specs.Bounded.{all}
+use Rattle.fields.proofs.Bounded.{all-not}
 
 module _ (p : ℕ → Bool) (n k : ℕ) where
   pub all_end : k ≤ n → n ≤ k → all k p ≡ true → true ≡ all n p
@@ -12,9 +12,3 @@ module _ (p : ℕ → Bool) (n k : ℕ) where
 
   pub all-broken : k < n → p k ≡ false → false ≡ all n p
   all-broken h e = sym (all-not p n k h e)
-
-  pub any-end : k ≤ n → n ≤ k → any k p ≡ false → false ≡ any n p
-  any-end h g e = rw (le_antisymm h g) at (sym e)
-
-  pub any_met : k < n → p k ≡ true → true ≡ any n p
-  any_met h e = sym (any_at p n k h e)

@@ -1,5 +1,5 @@
 -- Decision diagrams by levels: their widths and edges, and the value of an output at an input.
-use Rattle.std.specs.Prelude.{ℕ, zero, suc, ◌+◌, ◌*◌, ◌/◌, ◌%◌, ◌^◌, ◌<◌, ◌≡◌, Bool, true, false, cond, ltb, eqb, get_or}
+use Rattle.std.specs.Prelude.{ℕ, zero, suc, ◌+◌, ◌*◌, ◌/◌, ◌%◌, ◌^◌, ◌<◌, ◌≡◌, Bool, true, false, not, cond, ltb, eqb, get_or}
 use Rattle.diagram.specs.declared.Diagram.{Diagram}
 
 -- The number of nodes of a level. Level n has two, the constants false and true.
@@ -17,6 +17,10 @@ bit true = 1
 -- The 0-edge or the 1-edge of node u of level l: a node of the next level.
 abbrev pub edge : Diagram → ℕ → ℕ → Bool → ℕ
 edge d l u b = edge_at d l (2 * u + bit b)
+
+-- Whether node u's edges differ.
+abbrev pub is_fork : Diagram → ℕ → ℕ → Bool
+is_fork d l u = not (eqb (edge d l u false) (edge d l u true))
 
 -- An output's node in level 0.
 unfoldable pub root : Diagram → ℕ → ℕ

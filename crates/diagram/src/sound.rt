@@ -1,9 +1,12 @@
-// Questions 5 and 7, about a diagram whose arrays are lent.
-ghost use Rattle.std.specs.Prelude.{◌≡◌, cond, ◌+◌, ◌*◌, ◌≤◌, ◌<◌, ltb, length, get_or};
-ghost use Rattle.fields.specs.Bounded.{all};
-ghost use Rattle.diagram.specs.Inner.Bytes.{is_below, is_in_turn};
-ghost use Rattle.diagram.specs.Questions.{range_of, numbering_of};
-ghost use Rattle.diagram.specs.Inner.Lent.{Fit, WithArrays};
+// Questions 5 and 7, about a diagram.
+ghost use Rattle.std.specs.Prelude.{◌≡◌, ◌≤◌, ltb, length, get_or};
+ghost use Rattle.std.specs.List.{list_all};
+ghost use Rattle.fields.specs.Bounded.{listed};
+ghost use Rattle.diagram.specs.Questions as questions;
+ghost use Rattle.diagram.specs.Questions.{mention, range_of, numbering_of};
+ghost use Rattle.diagram.specs.Inner.Fit.{Fit};
+
+use crate::Diagram;
 
 // Question 5's answer.
 #[derive(Clone, Copy, Drop)]
@@ -19,86 +22,64 @@ pub enum Numbering {
     OutOfTurn,
 }
 
-// The number of nodes of a level of n; level n has two.
-pub fn width(widths: &[usize], n: usize, level: usize) -> usize
-    requires { n ≤ length widths.now }
-    ensures { result ≡ cond (ltb level n) (get_or widths.now level 0) 2 }
+// Whether all bytes are below a bound.
+fn below(bytes: &[u8], bound: usize) -> bool
+    ensures { result ≡ list_all (λ b. ltb b bound) bytes.now }
 {
-    if level < n { widths[level] } else { 2 }
+    bytes.iter().all(|byte| (*byte as usize) < bound)
 }
 
-// Whether so many bytes from a place on are below a bound.
-fn below(bytes: &[u8], from: usize, count: usize, bound: usize) -> bool
-    requires { from + count ≤ length bytes.now }
-    ensures { result ≡ all count (is_below bytes.now from bound) }
-{
-    for k in 0..count {
-        if bound <= bytes[from + k] as usize {
-            return false;
-        }
-    }
-    true
-}
-
-// Question 5: does every edge and output name a node that its level has?
-pub fn ask_range<'a>(
-    n: usize,
-    widths: &'a [usize],
-    edges: &'a [u8],
-    m: usize,
-    roots: &'a [u8],
-) -> Range
-    requires { Fit n widths.now edges.now × (m ≤ length roots.now) }
-    ensures { WithArrays n widths.now edges.now m roots.now (λ d. result ≡ range_of d) }
-{
-    if !below(roots, 0, m, width(widths, n, 0)) {
-        return Range::Outside;
-    }
-    for l in 0..n {
-        if !below(edges, l * 16, 2 * widths[l], width(widths, n, l + 1)) {
-            return Range::Outside;
-        }
-    }
-    Range::Within
-}
-
-// Whether so many bytes from a place on each mention a node mentioned before or the next number, and mention so many nodes.
-fn in_turn(bytes: &[u8], from: usize, count: usize, nodes: usize) -> bool
-    requires { from + count ≤ length bytes.now }
-    ensures { result ≡ is_in_turn bytes.now from count nodes }
+// Whether the bytes each mention a node mentioned before or the next number, and mention so many nodes.
+fn in_turn(bytes: &[u8], nodes: usize) -> bool
+    ensures { result ≡ questions.in_turn (λ k. get_or bytes.now k 0) (length bytes.now) nodes }
 {
     let mut next: usize = 0;
-    for k in 0..count {
-        let node = bytes[from + k] as usize;
+    for byte in bytes {
+        let node = *byte as usize;
         if next < node {
             return false;
         }
-        if node == next {
-            next += 1;
-        }
+        next = next.max(node + 1);
     }
     next == nodes
 }
 
-// Question 7: are nodes numbered by first mention, and all mentioned?
-pub fn ask_numbering<'a>(
-    n: usize,
-    widths: &'a [usize],
-    edges: &'a [u8],
-    m: usize,
-    roots: &'a [u8],
-) -> Numbering
-    requires { Fit n widths.now edges.now × (m ≤ length roots.now) }
-    ensures { WithArrays n widths.now edges.now m roots.now (λ d. result ≡ numbering_of d) }
-{
-    if !in_turn(roots, 0, m, widths[0]) {
-        return Numbering::OutOfTurn;
-    }
-    let last = n - 1;
-    for l in 0..last {
-        if !in_turn(edges, l * 16, 2 * widths[l], widths[l + 1]) {
-            return Numbering::OutOfTurn;
+impl Diagram {
+    // What mentions the nodes of a level: the output list, or the edges of the level before.
+    fn mentions(&self, level: usize) -> &[u8]
+        requires { Fit self.now × (self.now.outputs ≤ 8) × (level ≤ self.now.contacts) }
+        ensures { result.now ≡ listed (mention self.now level) (questions.mentions self.now level) 0 }
+    {
+        if level == 0 {
+            &self.roots[..self.outputs]
+        } else {
+            self.level(level - 1)
         }
     }
-    Numbering::InTurn
+
+    // Question 5: does every edge and output name a node that its level has?
+    pub fn ask_range(&self) -> Range
+        requires { Fit self.now × (self.now.outputs ≤ 8) }
+        ensures { result ≡ range_of self.now }
+    {
+        for level in 0..=self.contacts {
+            if !below(self.mentions(level), self.width(level)) {
+                return Range::Outside;
+            }
+        }
+        Range::Within
+    }
+
+    // Question 7: are nodes numbered by first mention, and all mentioned?
+    pub fn ask_numbering(&self) -> Numbering
+        requires { Fit self.now × (self.now.outputs ≤ 8) }
+        ensures { result ≡ numbering_of self.now }
+    {
+        for level in 0..self.contacts {
+            if !in_turn(self.mentions(level), self.width(level)) {
+                return Numbering::OutOfTurn;
+            }
+        }
+        Numbering::InTurn
+    }
 }

@@ -1,12 +1,11 @@
 -- Drawings: decision diagrams that skip levels, repeat nodes and use any numbering. Question 16, and an output's value at an input.
-use Rattle.std.specs.Prelude.{ℕ, zero, suc, ◌+◌, ◌*◌, ◌/◌, Bool, true, false, ◌&&◌, cond, List, ltb, leb, eqb, length, get_or}
+use Rattle.std.specs.Prelude.{ℕ, Option, Some, None, zero, suc, ◌+◌, ◌*◌, ◌/◌, Bool, true, false, ◌&&◌, cond, List, ltb, leb, eqb, length, get_or}
 use Rattle.fields.specs.Bounded.{all}
 use Rattle.fields.specs.Fields.{Item, Fields, fields_of, item_in, value_in}
 use Rattle.fields.specs.Refusals.{framing_number}
 use Rattle.files.specs.Header.{contacts_in, contacts_number, contacts_of, has_parts}
 use Rattle.diagram.specs.Diagram.{Input}
-use Rattle.drawing.specs.declared.form.Form.{Form}
-use Rattle.drawing.specs.declared.form.Form.TheVariants.{Formed, Unformed}
+use Rattle.drawing.specs.declared.form.Parts.{Parts}
 
 -- The count of contacts, the number at which each output starts, and three bytes for each node: its level, its 0-edge, its 1-edge.
 pub record Drawing : Type 0 where
@@ -19,6 +18,14 @@ drawing_of is = record { contacts = contacts_of is; outputs = value_in is 1; nod
 
 abbrev pub drawing_in : List ℕ → Drawing
 drawing_in file = drawing_of (fields_of file).items
+
+-- A drawing by its parts, and by the parts that were found.
+abbrev pub parted : Parts → Drawing
+parted p = record { contacts = p.contacts; outputs = p.outputs.now; nodes = p.nodes.now }
+
+abbrev pub drawing_by : Option Parts → Option Drawing
+drawing_by None = None
+drawing_by (Some p) = Some (parted p)
 
 -- Numbers 0 and 1 are the constants, 2 + i is node i, counted from 0.
 abbrev pub node_count : List ℕ → ℕ
@@ -54,7 +61,7 @@ is_drawing d =
 
 -- 16. Does the file have whole fields of tags 1, 2, 7 in that order and no more, tag 1 as in question 2, tag 2 of 1 to 8 outputs, tag 7
 -- of 0 to 200 whole nodes, and is each node and each output as it should be? No: 16.
-unfoldable pub form_of : Fields → Form
+unfoldable pub form_of : Fields → Option Drawing
 form_of fs =
     cond
     (eqb (framing_number fs.framing) 0
@@ -63,12 +70,12 @@ form_of fs =
     && has_parts 7 3 0 200 (item_in fs.items 2)
     && leb (length fs.items) 3
     && is_drawing (drawing_of fs.items))
-    (Formed (contacts_of fs.items))
-    Unformed
+    (Some (drawing_of fs.items))
+    None
 
-abbrev pub form_number : Form → ℕ
-form_number (Formed n) = 0
-form_number Unformed = 16
+abbrev pub form_number : Option Drawing → ℕ
+form_number (Some d) = 0
+form_number None = 16
 
 -- One step from a number at an input: a constant stays where it is, a node leads to its 1-edge if the contact of its level is 1, else
 -- to its 0-edge.

@@ -3,4 +3,4 @@
 
 mod form;
 
-pub use form::{Form, ask_form};
+pub use form::{Parts, ask_form};

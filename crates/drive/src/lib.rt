@@ -1,8 +1,9 @@
 // Questions 13, 14 and 21, about what a netlist is run with and from where.
 #![tactic(auto)]
 
-ghost use Rattle.std.specs.Prelude.{◌≡◌, ◌≤◌};
-ghost use Rattle.drive.specs.Questions.{rails_of, rank_of, is_hold, order_of, place_of};
+ghost use Rattle.std.specs.Prelude.{◌≡◌, ◌≤◌, length};
+ghost use Rattle.fields.specs.Bounded.{all};
+ghost use Rattle.drive.specs.Questions.{is_bit, rails_of, rank_of, is_hold, order_of, place_of};
 
 use netlist::Hold;
 
@@ -27,23 +28,23 @@ pub enum Place {
     Outside,
 }
 
+// Whether each byte is 0 or 1.
+fn are_bits(bytes: &[u8]) -> bool
+    ensures { result ≡ all (length bytes.now) (is_bit bytes.now) }
+{
+    bytes.iter().all(|byte| *byte <= 1)
+}
+
 // Question 13: are there 2n rail bytes, each 0 or 1?
 pub fn ask_rails(n: usize, rails: &[u8]) -> Rails
     requires { n ≤ 12 }
     ensures { result ≡ rails_of n rails.now }
 {
-    if rails.len() != 2 * n {
-        return Rails::Undriven;
+    if rails.len() == 2 * n && are_bits(rails) {
+        Rails::Driven
+    } else {
+        Rails::Undriven
     }
-    for i in 0..n {
-        if 1 < rails[2 * i] {
-            return Rails::Undriven;
-        }
-        if 1 < rails[2 * i + 1] {
-            return Rails::Undriven;
-        }
-    }
-    Rails::Driven
 }
 
 // Where a hold stands in a hold list: lines first, rising, then pins by rising gate, the first before the second.
@@ -61,20 +62,8 @@ pub fn rank(hold: Hold) -> usize
 fn is_hold(first: usize, lines: usize, before: usize, hold: Hold) -> bool
     ensures { result ≡ is_hold first lines before hold }
 {
-    if rank(hold) <= before {
-        return false;
-    }
     let line = hold.line as usize;
-    if lines <= line {
-        return false;
-    }
-    if 5 < hold.value {
-        return false;
-    }
-    if hold.value <= 1 {
-        return true;
-    }
-    first <= line
+    before < rank(hold) && line < lines && hold.value <= 5 && (hold.value <= 1 || first <= line)
 }
 
 // Question 14: are the holds whole, each naming a line from 2 up that is in the netlist, or a pin of a gate that is, line holds first,
@@ -82,12 +71,13 @@ fn is_hold(first: usize, lines: usize, before: usize, hold: Hold) -> bool
 pub fn ask_holds(first: usize, lines: usize, holds: &[u8]) -> Holds
     ensures { result ≡ order_of first lines holds.now }
 {
-    if holds.len() % 3 != 0 {
+    let (holds, rest) = holds.as_chunks::<3>();
+    if !rest.is_empty() {
         return Holds::Disordered;
     }
     let mut last = 1;
-    for i in 0..holds.len() / 3 {
-        let hold = netlist::hold_at(holds, i);
+    for bytes in holds {
+        let hold = Hold::from(bytes);
         if !is_hold(first, lines, last, hold) {
             return Holds::Disordered;
         }
@@ -100,11 +90,9 @@ pub fn ask_holds(first: usize, lines: usize, holds: &[u8]) -> Holds
 pub fn ask_place(lines: usize, place: usize) -> Place
     ensures { result ≡ place_of lines place }
 {
-    if place < 2 {
-        return Place::Outside;
+    if (2..=lines).contains(&place) {
+        Place::Within
+    } else {
+        Place::Outside
     }
-    if lines < place {
-        return Place::Outside;
-    }
-    Place::Within
 }

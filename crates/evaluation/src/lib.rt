@@ -4,4 +4,4 @@
 mod lines;
 mod ranks;
 
-pub use lines::{lesser, read_back, work_out};
+pub use lines::{read_back, work_out};

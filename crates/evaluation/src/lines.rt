@@ -1,5 +1,5 @@
 // Every line's value worked out, from one line to another, with lines and pins held.
-ghost use Rattle.std.specs.Prelude.{◌≡◌, [], ◌+◌, ◌*◌, ◌/◌, ◌≤◌, ◌<◌, min, max, length};
+ghost use Rattle.std.specs.Prelude.{◌≡◌, [], ◌+◌, ◌*◌, ◌/◌, ◌≤◌, ◌<◌, length};
 ghost use Rattle.netlist.specs.Netlist.{holds_of};
 ghost use Rattle.simulation.specs.Run.{gate_of};
 ghost use Rattle.simulation.specs.Service.{read_back};
@@ -125,19 +125,6 @@ fn put_pinned(
     }
 }
 
-// The greater and the lesser of two numbers.
-fn greater(x: usize, y: usize) -> usize
-    ensures { result ≡ max x y }
-{
-    if x < y { y } else { x }
-}
-
-pub fn lesser(x: usize, y: usize) -> usize
-    ensures { result ≡ min x y }
-{
-    if x < y { x } else { y }
-}
-
 // Works out gates from one line to another: those up to the next whose pin is held, then that one, and so on.
 fn put_all(
     gates: &[u8],
@@ -161,7 +148,7 @@ fn put_all(
     loop {
         let on_line = cursor.line;
         let on_pin = cursor.pin;
-        let stop = lesser((on_pin.rank - 65537) / 2, to);
+        let stop = ((on_pin.rank - 65537) / 2).min(to);
         let reached = put_gates(gates, rails, holds, on_line, at, stop, lines);
         if stop == to {
             return;
@@ -186,7 +173,7 @@ pub fn work_out(gates: &[u8], rails: &[u8], holds: &[u8], from: usize, to: usize
     lines[1] = 1;
     let first = 2 + rails.len();
     let next = ranks::seek(holds, from);
-    let stop = greater(from, lesser(first, to));
+    let stop = from.max(first.min(to));
     let next_gate = put_rails(rails, holds, next, from, stop, lines);
     if stop < to {
         put_all(gates, rails, holds, next_gate, stop, to, lines);

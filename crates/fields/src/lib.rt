@@ -109,29 +109,22 @@ impl Cursor {
 pub fn number(high: u8, low: u8) -> usize
     ensures { result ≡ number_of high low }
 {
-    high as usize * 256 + low as usize
+    u16::from_be_bytes([high, low]) as usize
 }
 
 // The byte at a place, or 0.
 pub fn byte(bytes: &[u8], at: usize) -> u8
     ensures { result ≡ get_or bytes.now at 0 }
 {
-    if at < bytes.len() { bytes[at] } else { 0 }
+    bytes.get(at).copied().unwrap_or(0)
 }
 
 // The value of a field, as that part of the file.
 pub fn value(file: &[u8], field: Field) -> &[u8]
     ensures { result.now ≡ value_of file.now field }
 {
-    let start = field.start;
-    let len = field.len;
-    if file.len() < start {
-        return &file[..0];
-    }
-    if file.len() - start < len {
-        return &file[start..];
-    }
-    &file[start..start + len]
+    let from_start = &file[field.start.min(file.len())..];
+    &from_start[..field.len.min(from_start.len())]
 }
 
 // Question 1: do the bytes split into whole fields with nothing left over?

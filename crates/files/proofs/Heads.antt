@@ -9,8 +9,7 @@ use lib.Dec.{eqb, leb}
 use lib.ListN.{length, get_or}
 use Rattle.fields.specs.Fields.{Item}
 use Rattle.fields.specs.Refusals.{between}
-use Rattle.files.specs.declared.header.Contacts.{Contacts}
-use Rattle.files.specs.declared.header.Contacts.TheVariants.{Counted, Uncounted}
+use Rattle.std.specs.Prelude.{Option, Some, None}
 use Rattle.files.specs.Header.{contacts_in, contacts_number, contacts_of}
 
 abbrev pub field : ℕ → List ℕ → Item
@@ -31,7 +30,7 @@ single [] e = absurd (omega arith)
 single (x ∷ []) e = refl
 single (x ∷ y ∷ v) e = absurd (omega arith)
 
-pub counted : (is : List Item) (n : ℕ) → contacts_in is ≡ Counted n → CountHead is n
+pub counted : (is : List Item) (n : ℕ) → contacts_in is ≡ Some n → CountHead is n
 unfolding contacts_in
 counted [] n e = absurd (let z : ◌≡◌ {A = ℕ} 0 1 = cc in omega arith)
 counted (i ∷ is) n e = go (first && between 1 m 12) refl e
@@ -42,7 +41,7 @@ counted (i ∷ is) n e = go (first && between 1 m 12) refl e
     first : Bool
     first = eqb i.tag 1 && eqb (length i.value) 1
 
-    go : (b : Bool) → (first && between 1 m 12) ≡ b → cond b (Counted m) Uncounted ≡ Counted n → CountHead (i ∷ is) n
+    go : (b : Bool) → (first && between 1 m 12) ≡ b → cond b (Some m) None ≡ Some n → CountHead (i ∷ is) n
     go true t e =
         let q : m ≡ n = cc in
         let both = (and-eq-true_iff first (between 1 m 12)).0 t in
@@ -57,12 +56,12 @@ counted (i ∷ is) n e = go (first && between 1 m 12) refl e
         }
     go false t e = absurd (let z : ◌≡◌ {A = ℕ} 0 1 = cc in omega arith)
 
-pub contacts-are : (is : List Item) {n : ℕ} → contacts_in is ≡ Counted n → contacts_of is ≡ n
+pub contacts-are : (is : List Item) {n : ℕ} → contacts_in is ≡ Some n → contacts_of is ≡ n
 contacts-are is {n} e = ap (λ (is : List Item). contacts_of is) (counted is n e).split
 
 pub counts : (is : List Item) → eqb (contacts_number (contacts_in is)) 0 ≡ true → (n : ℕ) × CountHead is n
 counts is e = go (contacts_in is) refl e
   where
-    go : (c : Contacts) → contacts_in is ≡ c → eqb (contacts_number c) 0 ≡ true → (n : ℕ) × CountHead is n
-    go (Counted n) c e = (n, counted is n c)
-    go Uncounted c e = absurd (let z : ◌≡◌ {A = ℕ} 0 1 = cc in omega arith)
+    go : (c : Option ℕ) → contacts_in is ≡ c → eqb (contacts_number c) 0 ≡ true → (n : ℕ) × CountHead is n
+    go (Some n) c e = (n, counted is n c)
+    go None c e = absurd (let z : ◌≡◌ {A = ℕ} 0 1 = cc in omega arith)

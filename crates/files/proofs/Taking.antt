@@ -3,40 +3,39 @@ use Prim.Native.Nat.{ℕ, ◌+◌, ◌-◌}
 use native.Mathlib.Omega.{arith}
 use mathlib.Core.Path.{◌≡◌, refl, sym, ap, ◌∙◌}
 use mathlib.Core.Bool.{Bool, true, false, not, ◌&&◌, and-false}
-use mathlib.Core.List.{List, []}
+use mathlib.Core.List.{List}
 use borrow.Author.Tests.{leb-true, leb-false, le-leb, lt-leb}
 use lib.Dec.{leb, eqb}
 use lib.ListN.{length, drop, length-drop}
 use lib.Seq.{drop-drop}
 use Rattle.fields.specs.declared.Field.{Field}
-use Rattle.fields.specs.declared.Cursor.{Cursor}
 use Rattle.fields.specs.declared.Step.{Step}
 use Rattle.fields.specs.declared.Step.TheVariants.{Next, End, Cut}
 use Rattle.fields.specs.Refusals.{framing_number}
-use Rattle.fields.specs.Fields.{Item, Fields, item_of, item_in, value_of, fields_from, fields_of}
+use Rattle.fields.specs.Fields.{Item, Fields, item_in, fields_from, fields_of}
 use Rattle.fields.specs.Inner.Walk.{step_at}
 use Rattle.fields.proofs.Places.{item-at}
 use Rattle.fields.proofs.Steps.{walk, items-next, from_start}
-use Rattle.files.specs.declared.row.Taken.{Taken}
-use Rattle.files.specs.Inner.Row.{ends_within, behind, Takes, Opens}
+use Rattle.std.specs.Prelude.{Option, Some, None}
+use Rattle.files.specs.Inner.Row.{ends_within, behind, Takes, is_some, item_by, Follows, Opens}
 
 module _ (file : List ℕ) (at : ℕ) where
-  pub taken_none : (fields_from file at).items ≡ [] →
-      Takes file at (record { found = false; field = record { tag = 0; start = 0; len = 0 }; past = at })
-  unfolding value_of
-  taken_none e =
+  -- A walk that finds no field stays, and one that finds a field goes past it.
+  pub stayed : Takes file at None → Follows file at None at
+  stayed e =
       record {
         found = sym (ap (λ (is : List Item). leb 1 (length is)) e);
         field = ap (λ (is : List Item). item_in is 0) (sym e);
         past = ap (λ (is : List Item). record { items = is; framing = (fields_from file at).framing }) (e ∙ ap (drop 1) (sym e));
       }
 
-  pub taken-some : {f : Field} {c : Cursor} → step_at file at ≡ Next f c → Takes file at (record { found = true; field = f; past = c.at })
-  taken-some e =
+  pub went_on : (f : Field) (past : ℕ) → Takes file at (Some (f, past)) → Follows file at (Some f) past
+  went_on f past e =
+      let items = ap (λ (fs : Fields). fs.items) e in
       record {
-        found = sym (le-leb 1 (length (fields_from file at).items) (omega (arith, ap (λ (is : List Item). length is) (items-next file at e))));
-        field = ap (λ (is : List Item). item_in is 0) (sym (items-next file at e));
-        past = ap (behind 1) (sym (walk file at e));
+        found = sym (le-leb 1 (length (fields_from file at).items) (omega (arith, ap (λ (is : List Item). length is) items)));
+        field = ap (λ (is : List Item). item_in is 0) (sym items);
+        past = ap (behind 1) (sym e);
       }
 
   -- What stands at the file's end, and what at a field or a part of one.
@@ -53,16 +52,16 @@ module _ (file : List ℕ) (at : ℕ) where
   goes_on Cut e o = sym (ap (ends_within 0) (walk file at e))
 
 -- A field past the first k of some fields.
-module _ (file : List ℕ) (fs : Fields) (k : ℕ) {at : ℕ} (start : fields_from file at ≡ behind k fs) {t : Taken} (h : Takes file at t) where
-  pub field-taken : item_of file t.field ≡ item_in fs.items k
+module _ (file : List ℕ) (fs : Fields) (k : ℕ) {at : ℕ} (start : fields_from file at ≡ behind k fs) {f : Option Field} {next : ℕ} (h : Follows file at f next) where
+  pub field-taken : item_by file f ≡ item_in fs.items k
   field-taken = h.field ∙ ap (λ (fs : Fields). item_in fs.items 0) start ∙ item-at fs.items k
 
-  pub walked_on : fields_from file t.past ≡ behind (k + 1) fs
+  pub walked_on : fields_from file next ≡ behind (k + 1) fs
   walked_on =
       h.past ∙ ap (behind 1) start
       ∙ ap (λ (is : List Item). record { items = is; framing = fs.framing }) (drop-drop 1 k fs.items)
 
-  pub found-more : t.found ≡ leb (k + 1) (length fs.items)
+  pub found-more : is_some f ≡ leb (k + 1) (length fs.items)
   found-more =
       h.found ∙ ap (λ (fs : Fields). leb 1 (length fs.items)) start ∙ ap (leb 1) (length-drop k fs.items)
       ∙ counted (leb (k + 1) (length fs.items)) refl
@@ -85,9 +84,9 @@ ends-past k fs =
     counted n true e = le-leb (n - k) 0 (omega (arith, leb-true n k e)) ∙ sym e
     counted n false e = lt-leb (n - k) 0 (omega (arith, leb-false n k e)) ∙ sym e
 
-pub opened-by : (file : List ℕ) {a b c d : Taken} {ends : Bool} → Takes file 0 a → Takes file a.past b → Takes file b.past c →
-    Takes file c.past d → ends ≡ ends_within 0 (fields_from file d.past) →
-    Opens file (record { first = a.field; second = b.field; third = c.field; fourth = d.field; four = d.found; ends = ends })
+pub opened-by : (file : List ℕ) {f g h i : Option Field} {a b c d : ℕ} {ends : Bool} → Follows file 0 f a → Follows file a g b →
+    Follows file b h c → Follows file c i d → ends ≡ ends_within 0 (fields_from file d) →
+    Opens file (record { first = f; second = g; third = h; fourth = i; ends = ends })
 opened-by file a b c d e =
     let none = from_start file refl in
     let one = walked_on file (fields_of file) 0 none a in

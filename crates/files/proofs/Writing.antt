@@ -1,35 +1,34 @@
 -- What a service that writes to one lent buffer returns and leaves, by what it asks.
 use Prim.Native.Nat.{ℕ, zero, suc}
 use native.Mathlib.Omega.{arith}
-use mathlib.Core.Path.{◌≡◌, refl, ap₂}
+use mathlib.Core.Path.{◌≡◌, refl}
 use mathlib.Core.List.{List, [], ◌∷◌}
 use lib.ListN.{length}
+use Rattle.std.specs.Prelude.{Ok, Err}
 use Rattle.fields.specs.Refusals.{first_no}
+use Rattle.files.specs.declared.refusal.Refusal.{Refusal}
+use Rattle.files.specs.declared.refusal.Refusal.TheVariants.{Room}
 use Rattle.files.specs.declared.room.Room.TheVariants.{Enough, Short}
-use Rattle.files.specs.Room.{room_of, room_number, over, Writing, writing_or, writing_of}
+use Rattle.files.specs.Refusals.{number_of}
+use Rattle.files.specs.Room.{room_of, room_number, over, written, writing_or, writing_of}
+use Rattle.files.proofs.Refusals.{above_zero}
 
-abbrev writing : ℕ → ℕ → List ℕ → Writing
-writing k n after = record { refusal = k; length = n; buffer = after }
-
-module _ (written buffer : List ℕ) where
-  -- After the refusal of the questions before, it returns k and n and leaves this.
-  abbrev pub Writes : ℕ → ℕ → ℕ → List ℕ → Type 0
-  Writes before k n after = writing k n after ≡ writing_of before written buffer
-
+module _ (bytes buffer : List ℕ) where
   -- A no to a question before question 9.
-  pub refused-before : {before k n : ℕ} → (before ≡ 0 → ⊥) → (k ≡ before) × (n ≡ 0) → Writes before k n buffer
+  pub refused-before : {before : ℕ} (r : Refusal) → number_of r ≡ before → written (Err r) buffer ≡ writing_of before bytes buffer
   unfolding writing_of first_no
-  refused-before {before = zero} h a = absurd (h refl)
-  refused-before {before = suc b} h a = ap₂ (λ (k n : ℕ). writing k n buffer) a.0 a.1
+  refused-before r e =
+      let a = above_zero r in
+      rw (← e, a.1) refl
 
-  pub too_short : {k n : ℕ} → room_of (length written) (length buffer) ≡ Short → (k ≡ 9) × (n ≡ 0) → Writes 0 k n buffer
+  pub too_short : room_of (length bytes) (length buffer) ≡ Short → written (Err Room) buffer ≡ writing_of 0 bytes buffer
   unfolding writing_of first_no
-  too_short e a = rw e (ap₂ (λ (k n : ℕ). writing k n buffer) a.0 a.1)
+  too_short e = rw e refl
 
-  pub written-whole : {n : ℕ} {after : List ℕ} → room_of (length written) (length buffer) ≡ Enough → n ≡ length written →
-      after ≡ over written buffer → Writes 0 0 n after
+  pub written-whole : {n : ℕ} {after : List ℕ} → room_of (length bytes) (length buffer) ≡ Enough → n ≡ length bytes →
+      after ≡ over bytes buffer → written (Ok n) after ≡ writing_of 0 bytes buffer
   unfolding writing_of first_no
-  written-whole e l a = rw e (ap₂ (writing 0) l a)
+  written-whole e l a = rw (e, l, a) refl
 
 -- A refusal has the length zero and leaves the buffer as it came.
 refused-or : (r : ℕ) (written buffer : List ℕ) (k : ℕ) → (writing_or r written buffer).refusal ≡ suc k →

@@ -1,3 +1,4 @@
+pub mod Refusals
 pub mod Header
 pub mod Room
 pub mod Inner

@@ -1,9 +1,11 @@
 -- Lent buffers: question 9, and what writing from the start of one leaves.
-use Rattle.std.specs.Prelude.{ℕ, zero, suc, cond, List, [], ◌∷◌, ◌++◌, leb}
+use Rattle.std.specs.Prelude.{ℕ, zero, suc, cond, Result, Ok, Err, List, [], ◌∷◌, ◌++◌, leb}
 use lib.ListN.{drop}
 use Rattle.fields.specs.Refusals.{first_no}
+use Rattle.files.specs.declared.refusal.Refusal.{Refusal}
 use Rattle.files.specs.declared.room.Room.{Room}
 use Rattle.files.specs.declared.room.Room.TheVariants.{Enough, Short}
+use Rattle.files.specs.Refusals.{number_in}
 
 -- 9. Is a lent buffer long enough? No: 9.
 abbrev pub room_of : ℕ → ℕ → Room
@@ -22,6 +24,15 @@ pub record Writing : Type 0 where
   pub refusal : ℕ
   pub length : ℕ
   pub buffer : List ℕ
+
+-- The length of a result: 0 with a refusal.
+abbrev pub length_in : Result ℕ Refusal → ℕ
+length_in (Ok n) = n
+length_in (Err r) = 0
+
+-- A result, the length or a refusal, with what the buffer holds after it.
+abbrev pub written : Result ℕ Refusal → List ℕ → Writing
+written result buffer = record { refusal = number_in result; length = length_in result; buffer = buffer }
 
 -- It writes the bytes and returns how many they are; a refusal leaves the buffer as it came.
 abbrev pub writing_or : ℕ → List ℕ → List ℕ → Writing

@@ -4,12 +4,14 @@
 
 mod header;
 mod parts;
+mod refusal;
 mod room;
 mod row;
 mod write;
 
-pub use header::{Contacts, count_contacts};
+pub use header::count_contacts;
 pub use parts::has_parts;
-pub use room::{Room, Written, ask_room, refused};
-pub use row::{Row, Taken, ends_at, first_four, take};
+pub use refusal::Refusal;
+pub use room::{Room, Written, ask_room};
+pub use row::{Row, ends_at, first_four, take};
 pub use write::{copy, put_field, put_number};

@@ -10,16 +10,6 @@ pub fn has_parts(file: &[u8], field: Field, tag: u8, size: usize, least: usize, 
     requires { 0 < size }
     ensures { result ≡ has_parts tag size least most (item_of file.now field) }
 {
-    let found = field.tag;
     let len = fields::value(file, field).len();
-    if found != tag {
-        return false;
-    }
-    if len % size != 0 {
-        return false;
-    }
-    if len / size < least {
-        return false;
-    }
-    len / size <= most
+    field.tag == tag && len % size == 0 && least <= len / size && len / size <= most
 }

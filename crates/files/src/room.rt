@@ -1,6 +1,9 @@
 // Lent buffers: question 9, asked of each, and what a service that writes to one returns.
 ghost use Rattle.std.specs.Prelude.{◌≡◌};
-ghost use Rattle.files.specs.Room.{room_of};
+ghost use Rattle.files.specs.Refusals.{number_in};
+ghost use Rattle.files.specs.Room.{room_of, length_in};
+
+use crate::Refusal;
 
 // Question 9's answer.
 #[derive(Clone, Copy, Drop)]
@@ -20,7 +23,7 @@ pub fn ask_room(wanted: usize, lent: usize) -> Room
     }
 }
 
-// What a service that writes to one lent buffer returns: how many bytes it wrote, or the refusal.
+// What a service that writes to one lent buffer returns to C: how many bytes it wrote, or the number of its refusal.
 #[repr(C)]
 #[derive(Clone, Copy, Drop)]
 pub struct Written {
@@ -28,12 +31,20 @@ pub struct Written {
     pub length: u32,
 }
 
-// A refusal, with the length zero.
-pub fn refused(number: u32) -> Written
-    ensures { (result.refusal ≡ number) × (result.length ≡ 0) }
-{
-    Written {
-        refusal: number,
-        length: 0,
+impl From<Result<u32, Refusal>> for Written {
+    ghost from_gives = { λ x w. (w.refusal ≡ number_in x) × (w.length ≡ length_in x) };
+
+    // With a refusal the length is zero.
+    fn from(written: Result<u32, Refusal>) -> Written {
+        match written {
+            Ok(length) => Written {
+                refusal: 0,
+                length: length,
+            },
+            Err(refusal) => Written {
+                refusal: refusal.number(),
+                length: 0,
+            },
+        }
     }
 }

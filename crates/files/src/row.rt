@@ -1,50 +1,38 @@
 // The fields of a file one after the other, in one walk.
 ghost use Rattle.std.specs.Prelude.{◌≡◌};
 ghost use Rattle.fields.specs.Fields.{fields_from};
-ghost use Rattle.files.specs.Inner.Row.{Takes, ends_within, Opens};
+ghost use Rattle.files.specs.Inner.Row.{Takes, Follows, ends_within, Opens};
 
 use fields::{Cursor, Field, Step};
 
-// A field that a walk finds, and the place past it. Where there is none: an empty field of tag 0, and the place as it was.
-#[derive(Clone, Copy, Drop)]
-pub struct Taken {
-    pub found: bool,
-    pub field: Field,
-    pub past: usize,
-}
-
-// The first four fields of a file, empty ones of tag 0 where there are not so many; whether there is a fourth; whether the file is
-// whole and has no more.
+// The fields that a file begins with, as many of four as there are, and whether the file is whole and has no more.
 #[derive(Clone, Copy, Drop)]
 pub struct Row {
-    pub first: Field,
-    pub second: Field,
-    pub third: Field,
-    pub fourth: Field,
-    pub four: bool,
+    pub first: Option<Field>,
+    pub second: Option<Field>,
+    pub third: Option<Field>,
+    pub fourth: Option<Field>,
     pub ends: bool,
 }
 
-// The next field from a place on.
-pub fn take(file: &[u8], at: usize) -> Taken
+// The next field from a place on, and the place past it, if there is one.
+pub fn take(file: &[u8], at: usize) -> Option<(Field, usize)>
     ensures { Takes file.now at result }
 {
     let cursor = Cursor { at: at };
     let Step::Next(field, moved) = cursor.next(file) else {
-        return Taken {
-            found: false,
-            field: Field {
-                tag: 0,
-                start: 0,
-                len: 0,
-            },
-            past: at,
-        };
+        return None;
     };
-    Taken {
-        found: true,
-        field: field,
-        past: moved.at,
+    Some((field, moved.at))
+}
+
+// The next field from a place on, if there is one, and the place past it, or that place itself.
+fn walk(file: &[u8], at: usize) -> (Option<Field>, usize)
+    ensures { Follows file.now at result.0 result.1 }
+{
+    match take(file, at) {
+        Some((field, past)) => (Some(field), past),
+        None => (None, at),
     }
 }
 
@@ -53,30 +41,22 @@ pub fn ends_at(file: &[u8], at: usize) -> bool
     ensures { result ≡ ends_within 0 (fields_from file.now at) }
 {
     let cursor = Cursor { at: at };
-    let Step::End = cursor.next(file) else {
-        return false;
-    };
-    true
+    matches!(cursor.next(file), Step::End)
 }
 
 // The fields that a file begins with.
 pub fn first_four(file: &[u8]) -> Row
     ensures { Opens file.now result }
 {
-    let a = take(file, 0);
-    let first = a.field;
-    let b = take(file, a.past);
-    let second = b.field;
-    let c = take(file, b.past);
-    let third = c.field;
-    let d = take(file, c.past);
-    let fourth = d.field;
+    let (first, a) = walk(file, 0);
+    let (second, b) = walk(file, a);
+    let (third, c) = walk(file, b);
+    let (fourth, d) = walk(file, c);
     Row {
         first: first,
         second: second,
         third: third,
         fourth: fourth,
-        four: d.found,
-        ends: ends_at(file, d.past),
+        ends: ends_at(file, d),
     }
 }

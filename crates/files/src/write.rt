@@ -8,8 +8,7 @@ pub fn put_number(out: &mut [u8], at: usize, x: u16)
     requires { at + 2 ≤ length out.old }
     ensures { out.new ≡ sets out.old at (x / 256 ∷ x % 256 ∷ []) }
 {
-    out[at] = (x / 256) as u8;
-    out[at + 1] = (x % 256) as u8;
+    copy(out, at, &x.to_be_bytes());
 }
 
 // Copies bytes to a file, from a place on.
@@ -17,9 +16,7 @@ pub fn copy(file: &mut [u8], at: usize, value: &[u8])
     requires { at + length value.now ≤ length file.old }
     ensures { file.new ≡ sets file.old at value.now }
 {
-    for i in 0..value.len() {
-        file[at + i] = value[i];
-    }
+    file[at..at + value.len()].copy_from_slice(value);
 }
 
 // Writes a field, from a place on: its tag, its length (high byte first), its value.
@@ -28,9 +25,7 @@ pub fn put_field(file: &mut [u8], at: usize, tag: u8, value: &[u8])
     ensures { file.new
         ≡ sets file.old at (field_bytes (record { tag = tag; value = value.now })) }
 {
-    let len = value.len();
     file[at] = tag;
-    file[at + 1] = (len / 256) as u8;
-    file[at + 2] = (len % 256) as u8;
+    put_number(file, at + 1, value.len() as u16);
     copy(file, at + 3, value);
 }

@@ -1,6 +1,6 @@
 pub mod Binding
 pub mod Writing
 pub mod Rooms
-pub mod WrittenLines
-pub mod WrittenTrees
-pub mod WrittenLamps
+pub mod Trees
+pub mod Lines
+pub mod Pairs

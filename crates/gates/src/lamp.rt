@@ -1,48 +1,40 @@
 // The gates of a lamp: two pairs joined into one, and all pairs of a board.
-ghost use Rattle.std.specs.Prelude.{◌+◌, ◌*◌, ◌-◌, ◌≤◌, length, take, drop};
+ghost use Rattle.std.specs.Prelude.{◌≤◌, length};
 ghost use Rattle.netlist.specs.Netlist.{pairs_of};
 ghost use Rattle.rules.specs.Blocks.{cut};
-ghost use Rattle.rules.specs.Lamp as lamps;
-ghost use Rattle.gates.specs.Inner.Written.{Written, GateRoom};
+ghost use Rattle.rules.specs.Lamp.{join, join_tree};
+ghost use Rattle.gates.specs.Inner.Written.{Written, GateRoom, RoomFor};
 
-use crate::gate;
+use crate::gate::Gates;
 use netlist::Pair;
 
-// Joins two pairs: the OR of two ANDs is the true line, that of two more the false line.
-fn join(left: Pair, right: Pair, out: &mut [u8], first: usize, made: usize) -> Pair
-    requires { GateRoom first made 6 out.old }
-    ensures { Written (lamps.join left right) first made out.old out.new result (made + 6) }
-{
-    let both = gate::make_gate(out, first, made, 0, left.on, right.on);
-    let neither = gate::make_gate(out, first, made + 1, 0, left.off, right.off);
-    let on = gate::make_gate(out, first, made + 2, 1, both, neither);
-    let one = gate::make_gate(out, first, made + 3, 0, left.on, right.off);
-    let other = gate::make_gate(out, first, made + 4, 0, left.off, right.on);
-    let off = gate::make_gate(out, first, made + 5, 1, one, other);
-    Pair { on: on, off: off }
-}
-
-// Joins count pairs from a place on: each part's joins come first, then the join of the two. It makes 6 (count - 1) gates.
-pub fn join_tree(
-    pairs: &[u8],
-    from: usize,
-    count: usize,
-    out: &mut [u8],
-    first: usize,
-    made: usize,
-) -> Pair
-    requires { (1 ≤ count) × (4 * (from + count) ≤ length pairs.now) × GateRoom first made (6 * (count - 1)) out.old }
-    ensures { Written (lamps.join_tree (cut count) (take count (drop from (pairs_of pairs.now))))
-        first made out.old out.new result (made + 6 * (count - 1)) }
-{
-    if count <= 1 {
-        return netlist::pair_at(pairs, from);
+impl<'a> Gates<'a> {
+    // Joins two pairs: the OR of two ANDs is the true line, that of two more the false line.
+    fn join(&mut self, left: Pair, right: Pair) -> Pair
+        requires { GateRoom self.old 6 }
+        ensures { Written (join left right) self.old self.new result }
+    {
+        let both = self.gate(0, left.on, right.on);
+        let neither = self.gate(0, left.off, right.off);
+        let on = self.gate(1, both, neither);
+        let one = self.gate(0, left.on, right.off);
+        let other = self.gate(0, left.off, right.on);
+        let off = self.gate(1, one, other);
+        Pair { on: on, off: off }
     }
-    let half = (count + 1) / 2;
-    let rest = count - half;
-    let middle = from + half;
-    let next = made + 6 * (half - 1);
-    let left = join_tree(pairs, from, half, out, first, made);
-    let right = join_tree(pairs, middle, rest, out, first, next);
-    join(left, right, out, first, made + 6 * (count - 2))
+
+    // Joins the pairs of some bytes, four bytes a pair: each part's joins come first, then the join of the two.
+    pub fn join_tree(&mut self, pairs: &[u8]) -> Pair
+        requires { (4 ≤ length pairs.now) × RoomFor (join_tree (cut (length (pairs_of pairs.now))) (pairs_of pairs.now)) self.old }
+        ensures { Written (join_tree (cut (length (pairs_of pairs.now))) (pairs_of pairs.now)) self.old self.new result }
+    {
+        let count = pairs.len() / 4;
+        if count <= 1 {
+            return netlist::pair_at(pairs, 0);
+        }
+        let (left, right) = pairs.split_at(4 * ((count + 1) / 2));
+        let one = self.join_tree(left);
+        let other = self.join_tree(right);
+        self.join(one, other)
+    }
 }

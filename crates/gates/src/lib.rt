@@ -5,5 +5,4 @@ mod gate;
 mod join;
 mod lamp;
 
-pub use join::{Joined, join_lines, term};
-pub use lamp::join_tree;
+pub use gate::Gates;

@@ -27,7 +27,7 @@ fn put_lamp(file: &mut [u8], at: usize, lamp: &[u8])
     requires { (length lamp.now < 65536) × (at + lamp_length (length lamp.now) ≤ length file.old) }
     ensures { file.new ≡ sets file.old at (encoded (lamp_field lamp.now)) }
 {
-    if lamp.len() == 0 {
+    if lamp.is_empty() {
         return;
     }
     files::put_field(file, at, 6, lamp);

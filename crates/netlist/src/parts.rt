@@ -4,12 +4,36 @@ ghost use Rattle.netlist.specs.Netlist.{gate_at, pair_at, hold_at, number_at};
 
 use crate::{Gate, Hold, Pair};
 
+impl From<&[u8; 5]> for Gate {
+    fn from(bytes: &[u8; 5]) -> Self
+        ensures { result ≡ gate_at bytes.now 0 }
+    {
+        gate_at(bytes, 0)
+    }
+}
+
+impl From<&[u8; 4]> for Pair {
+    fn from(bytes: &[u8; 4]) -> Self
+        ensures { result ≡ pair_at bytes.now 0 }
+    {
+        pair_at(bytes, 0)
+    }
+}
+
+impl From<&[u8; 3]> for Hold {
+    fn from(bytes: &[u8; 3]) -> Self
+        ensures { result ≡ hold_at bytes.now 0 }
+    {
+        hold_at(bytes, 0)
+    }
+}
+
 // The number of two bytes at a place.
 pub fn number_at(bytes: &[u8], at: usize) -> u16
     requires { at + 2 ≤ length bytes.now }
     ensures { result ≡ number_at bytes.now at }
 {
-    bytes[at] as u16 * 256 + bytes[at + 1] as u16
+    u16::from_be_bytes([bytes[at], bytes[at + 1]])
 }
 
 // Gate g of the gates' bytes.

@@ -5,6 +5,7 @@ use native.Mathlib.Omega.{arith}
 use mathlib.Core.Path.{◌≡◌, refl, sym, ap, ap₂, ◌∙◌}
 use mathlib.Core.Bool.{Bool, true, false, cond}
 use mathlib.Core.List.{List, [], ◌∷◌, ◌++◌, append_assoc, append-nil}
+use Rattle.std.proofs.Common.{Some, None}
 use lib.ListN.{length, take, drop, length-append, length-map, length-drop}
 use lib.Seq.{take_at, drop_at, drop-drop, take-length, drop-length}
 use Rattle.diagram.specs.Diagram.{input_of}
@@ -20,7 +21,6 @@ use Rattle.simulation.proofs.Whole.{whole-lines}
 use Rattle.simulation.proofs.Worked.{length-drivers}
 use Rattle.rules.proofs.Codes.{code-length, code-bits}
 use Rattle.faults.specs.Betrayal.{stuck_at, some_no_code, is_seen, smallest_input}
-use Rattle.search.specs.declared.inputs.Found.TheVariants.{At, Nowhere}
 use Rattle.search.specs.Inner.Found.{found_in}
 use Rattle.stuck.specs.declared.answer.Probed.{Probed}
 use Rattle.stuck.specs.Service.{Probing, found_at, hidden_probe, probing_with}
@@ -84,21 +84,21 @@ length-lines n gates pairs h a =
 
 -- What the search found.
 module _ (net : Netlist) (h : Hold) where
-  found-at : (a : ℕ) → At a ≡ found_in net h → (is_seen net h ≡ true) × (a ≡ smallest_input net h)
+  found-at : (a : ℕ) → Some a ≡ found_in net h → (is_seen net h ≡ true) × (a ≡ smallest_input net h)
   found-at a = go (is_seen net h)
     where
-      go : (b : Bool) → At a ≡ cond b (At (smallest_input net h)) Nowhere → (b ≡ true) × (a ≡ smallest_input net h)
+      go : (b : Bool) → Some a ≡ cond b (Some (smallest_input net h)) None → (b ≡ true) × (a ≡ smallest_input net h)
       go true e = (refl, cc)
       go false e = absurd (let z : ◌≡◌ {A = ℕ} 0 1 = cc in omega arith)
 
-  found_nowhere : Nowhere ≡ found_in net h → is_seen net h ≡ false
-  found_nowhere = go (is_seen net h)
+  found_none : None ≡ found_in net h → is_seen net h ≡ false
+  found_none = go (is_seen net h)
     where
-      go : (b : Bool) → Nowhere ≡ cond b (At (smallest_input net h)) Nowhere → b ≡ false
+      go : (b : Bool) → None ≡ cond b (Some (smallest_input net h)) None → b ≡ false
       go true e = absurd (let z : ◌≡◌ {A = ℕ} 0 1 = cc in omega arith)
       go false e = refl
 
-  pub betrayed-at : (a : ℕ) → At a ≡ found_in net h → some_no_code net.pairs (stuck_at net h a) ≡ true
+  pub betrayed-at : (a : ℕ) → Some a ≡ found_in net h → some_no_code net.pairs (stuck_at net h a) ≡ true
   betrayed-at a e =
       let (seen, least) = found-at a e in
       rw least (betrayed-there net h seen)
@@ -111,13 +111,13 @@ module _ (net : Netlist) (h : Hold) where
         let values = stuck_at net h input in
         record { answer = cond seen (found_at net.pairs input values) hidden_probe; buffer = over (file ++ values) buffer }
 
-    pub answer-seen : (a : ℕ) {r : Probed} {after : List ℕ} → At a ≡ found_in net h → r ≡ found_at net.pairs a (stuck_at net h a) →
+    pub answer-seen : (a : ℕ) {r : Probed} {after : List ℕ} → Some a ≡ found_in net h → r ≡ found_at net.pairs a (stuck_at net h a) →
         after ≡ over (file ++ stuck_at net h a) buffer → record { answer = r; buffer = after } ≡ probing_with file net h buffer
     answer-seen a e er ea =
         let (seen, least) = found-at a e in
         (λ i. record { answer = er i; buffer = ea i }) ∙ ap₂ leaves (sym seen) least
 
-    pub answer-hidden : {r : Probed} {after : List ℕ} → Nowhere ≡ found_in net h → r ≡ hidden_probe →
+    pub answer-hidden : {r : Probed} {after : List ℕ} → None ≡ found_in net h → r ≡ hidden_probe →
         after ≡ over (file ++ stuck_at net h 0) buffer → record { answer = r; buffer = after } ≡ probing_with file net h buffer
     answer-hidden e er ea =
-        (λ i. record { answer = er i; buffer = ea i }) ∙ ap (λ (b : Bool). leaves b (smallest_input net h)) (sym (found_nowhere e))
+        (λ i. record { answer = er i; buffer = ea i }) ∙ ap (λ (b : Bool). leaves b (smallest_input net h)) (sym (found_none e))

@@ -14,7 +14,7 @@ ghost use Rattle.stuck.specs.Inner.Findings.{RunReady, WriteReady, ProbeReady, A
 use diagram::Diagram;
 use drive::Holds;
 use files::Room;
-use search::Found;
+use search::Board;
 use stuck::{Fanout, Probed};
 
 // The rails of a code input, in line order from the start of the array.
@@ -46,25 +46,24 @@ fn show_at(gates: &[u8], n: usize, hold: &[u8], input: u32, lines: &mut [u8])
 
 // Writes the netlist's file and, behind it, every line's value at a code input with a line or pin held, and returns where these
 // start.
-fn write_at(
-    gates: &[u8],
-    pairs: &[u8],
-    n: usize,
-    hold: &[u8],
-    input: u32,
-    buffer: &mut [u8],
-) -> usize
-    requires { WriteReady n gates.now pairs.now hold.now (length buffer.old) }
-    ensures value { result ≡ 10 + length gates.now + length pairs.now }
+fn write_at(board: Board, hold: &[u8], input: u32, buffer: &mut [u8]) -> usize
+    requires { WriteReady board.contacts board.gates.now board.pairs.now hold.now (length buffer.old) }
+    ensures value { result ≡ 10 + length board.entry.gates.now + length board.entry.pairs.now }
     ensures buffer_after { buffer.new
         ≡ over
-        (file_with n gates.now pairs.now []
-        ++ stuck_at (net_of n gates.now pairs.now) (hold_at hold.now 0) input)
+        (file_with board.entry.contacts board.entry.gates.now board.entry.pairs.now []
+        ++ stuck_at (net_of board.entry.contacts board.entry.gates.now board.entry.pairs.now) (hold_at hold.now 0) input)
         buffer.old }
 {
-    netlist::put_file(buffer, n, gates, pairs, b"");
-    let start = 10 + gates.len() + pairs.len();
-    show_at(gates, n, hold, input, &mut buffer[start..]);
+    netlist::put_file(buffer, board.contacts, board.gates, board.pairs, b"");
+    let start = 10 + board.gates.len() + board.pairs.len();
+    show_at(
+        board.gates,
+        board.contacts,
+        hold,
+        input,
+        &mut buffer[start..],
+    );
     start
 }
 
@@ -75,32 +74,31 @@ fn name_output(pairs: &[u8], lines: &[u8], input: u32) -> Probed
     ensures { result ≡ found_at (pairs_of pairs.now) input lines.now }
 {
     let output = search::lowest(pairs, lines);
-    let on = batches::value_at(pairs, 4 * (output as usize), lines);
-    let way = stuck::way_of(on);
+    let pair = netlist::pair_at(pairs, output as usize);
+    let on = lines[usize::from(pair.on)];
     Probed {
         refusal: 0,
-        input: input,
-        output: output,
-        way: way,
+        input,
+        output,
+        way: stuck::way_of(on),
     }
 }
 
 // Finds the smallest code input that betrays a held line or pin, and writes the netlist's file and the line values there; at input 0
 // where no input does.
-fn find(gates: &[u8], pairs: &[u8], n: usize, hold: &[u8], buffer: &mut [u8]) -> Probed
-    requires { ProbeReady n gates.now pairs.now hold.now (length buffer.old) }
+fn find(board: Board, hold: &[u8], buffer: &mut [u8]) -> Probed
+    requires { ProbeReady board.contacts board.gates.now board.pairs.now hold.now (length buffer.old) }
     ensures { record { answer = result; buffer = buffer.new }
-        ≡ probing_with (file_with n gates.now pairs.now [])
-        (net_of n gates.now pairs.now) (hold_at hold.now 0) buffer.old }
+        ≡ probing_with (file_with board.entry.contacts board.entry.gates.now board.entry.pairs.now [])
+        (net_of board.entry.contacts board.entry.gates.now board.entry.pairs.now) (hold_at hold.now 0) buffer.old }
 {
-    let line = netlist::number_at(hold, 0) as usize;
-    let Found::At(input) = search::search(gates, pairs, n, line, hold[2]) else {
-        write_at(gates, pairs, n, hold, 0, buffer);
+    let Some(input) = search::search(board, netlist::hold_at(hold, 0)) else {
+        write_at(board, hold, 0, buffer);
         return stuck::hidden();
     };
-    let start = write_at(gates, pairs, n, hold, input, buffer);
-    let end = start + (2 + 2 * n + gates.len() / 5);
-    name_output(pairs, &buffer[start..end], input)
+    let start = write_at(board, hold, input, buffer);
+    let end = start + (2 + 2 * board.contacts + board.gates.len() / 5);
+    name_output(board.pairs, &buffer[start..end], input)
 }
 
 // What probe returns and leaves of an accepted table's diagram; its board's gates are written to a buffer of their own.
@@ -126,7 +124,12 @@ fn probe_board(d: Diagram, hold: &[u8], buffer: &mut [u8], gates: &mut [u8]) -> 
     let Room::Enough = files::ask_room(10 + gate_bytes + pair_bytes + lines, buffer.len()) else {
         return stuck::refused(9);
     };
-    find(&gates[..gate_bytes], &pairs[..pair_bytes], n, hold, buffer)
+    let board = Board {
+        contacts: n,
+        gates: &gates[..gate_bytes],
+        pairs: &pairs[..pair_bytes],
+    };
+    find(board, hold, buffer)
 }
 
 // The smallest code input at which a held line or pin makes some pair 00 or 11, the lowest such output and the way it shows, or that

@@ -1,6 +1,4 @@
-pub mod Cells
+pub mod Terms
 pub mod Listing
-pub mod Standing
-pub mod WrittenRows
-pub mod WrittenTerms
-pub mod WrittenEntries
+pub mod Entries
+pub mod Rows

@@ -1,21 +1,26 @@
 -- The middle nodes of a row that are listed: terms of the others are never, so they make no gate and are no lines.
-use Prim.Native.Nat.{ℕ, zero, suc, ◌+◌, ◌*◌, ◌≤◌, ◌<◌}
+use Prim.Native.Nat.{ℕ, suc, ◌+◌, ◌≤◌, ◌<◌}
 use native.Mathlib.Numerals.{add-one}
 use native.Mathlib.Omega.{arith}
 use mathlib.Core.Path.{◌≡◌, refl, sym, ap, ◌∙◌}
 use mathlib.Core.Bool.{Bool, true, false, or-false}
-use mathlib.Core.List.{List, [], ◌∷◌, ◌++◌}
-use lib.ListN.{length, get_or, set, take, drop}
-use lib.Seq.{drop-length, drop-cons, take-set-le, take-suc-set}
+use mathlib.Core.List.{List, [], ◌∷◌, ◌++◌, append-nil}
+use lib.ListN.{length, length-append, get_or, drop}
+use lib.Seq.{drop-length, drop-cons}
 use Rattle.fields.specs.Bounded.{any}
 use Rattle.fields.proofs.Bounded.{any_at}
-use Rattle.rules.specs.declared.Entry.TheVariants.{Never}
+use Rattle.rules.specs.declared.Entry.TheVariants.{Never, Always, Line}
 use Rattle.rules.specs.Blocks.{Matrix, entry_at, is_always, term}
-use Rattle.products.specs.Inner.Cells.{entry_of, matrix_of}
+use Rattle.gates.specs.declared.gate.Gates.{Gates}
 use Rattle.products.specs.Inner.Terms.{any_always, Listed, ended, dropped, taken}
-use Rattle.products.proofs.Cells.{cell_at}
 use Rattle.gates.proofs.Writing.{written-return}
-use Rattle.products.proofs.WrittenTerms.{Turned, turned_more}
+use Rattle.products.proofs.Terms.{Turned, turned_more}
+
+-- What is found of a row's factors: the middle nodes before w are listed, and `some` says whether a factor there is always.
+pub record Found (left : Matrix) (u w : ℕ) (nodes : List ℕ) (some : Bool) : Type 0 where
+  pub few : length nodes ≤ w
+  pub listed : Listed left u w 0 nodes
+  pub always : some ≡ any_always w left u
 
 -- A list grows by the next middle node, or stays where its factor is never.
 module _ {left : Matrix} {u w : ℕ} where
@@ -30,69 +35,72 @@ module _ {left : Matrix} {u w : ℕ} where
   list-longer (dropped {w = k} h n l) = dropped {w = k} (omega arith) n (list-longer l)
   list-longer (taken {w = k} h n l) = taken {w = k} (omega arith) n (list-longer l)
 
-pub listed_more : {left : Matrix} {u w : ℕ} (count : ℕ) (nodes : List ℕ) → count < length nodes →
-    Listed left u w 0 (take count nodes) → Listed left u (w + 1) 0 (take (count + 1) (set nodes count w))
-listed_more {w = w} count nodes room l = rw (add-one count, take-suc-set nodes count w room) (list-longer l)
-
-not-always : (x : ℕ) → (x ≡ 1 → ⊥) → is_always (entry_of x) ≡ false
-not-always zero h = refl
-not-always (suc zero) h = absurd (h refl)
-not-always (suc (suc x)) h = refl
-
--- What the line of a factor says of it.
-module _ (left : List ℕ) {u w : ℕ} (hu : u < 8) (hw : w < 8) where
-  pub listed-never : (count : ℕ) (nodes : List ℕ) → get_or left (8 * u + w) 0 ≡ 0 →
-      Listed (matrix_of left) u w 0 (take count nodes) → Listed (matrix_of left) u (w + 1) 0 (take count (set nodes count w))
-  listed-never count nodes e l =
-      rw (take-set-le count nodes count w (omega arith)) (list-kept (cell_at left u w hu hw ∙ ap entry_of e) l)
-
-  pub some-always : get_or left (8 * u + w) 0 ≡ 1 → true ≡ any_always (w + 1) (matrix_of left) u
-  some-always e = sym (any_at _ (w + 1) w (omega arith) (ap is_always (cell_at left u w hu hw ∙ ap entry_of e)))
-
-  pub none-always : {some : Bool} → (get_or left (8 * u + w) 0 ≡ 1 → ⊥) → some ≡ any_always w (matrix_of left) u →
-      some ≡ any_always (w + 1) (matrix_of left) u
+-- One factor more is found.
+module _ {left : Matrix} {u : ℕ} where
+  pub found_none : Found left u 0 [] false
   unfolding any
-  none-always h e =
-      let other = ap is_always (cell_at left u w hu hw) ∙ not-always (get_or left (8 * u + w) 0) h in
-      rw (add-one w, other) (e ∙ sym (or-false _))
+  found_none = record { few = omega arith; listed = ended refl; always = refl }
+
+  module _ {w : ℕ} {nodes : List ℕ} {some : Bool} (f : Found left u w nodes some) where
+    pub found_never : entry_at left u w ≡ Never → Found left u (w + 1) nodes some
+    unfolding any
+    found_never e =
+        let few = f.few in
+        record { few = omega arith; listed = list-kept e f.listed; always = rw (add-one w, e) (f.always ∙ sym (or-false _)) }
+
+    module _ {later : List ℕ} (added : later ≡ nodes ++ (w ∷ [])) where
+      longer : length later ≤ w + 1
+      longer =
+          let few = f.few in
+          let size = ap length added in
+          let both = length-append nodes (w ∷ []) in
+          omega arith
+
+      pub found_always : entry_at left u w ≡ Always → Found left u (w + 1) later true
+      found_always e =
+          record {
+            few = longer;
+            listed = rw added (list-longer f.listed);
+            always = sym (any_at _ (w + 1) w (omega arith) (ap is_always e));
+          }
+
+      pub found_line : {x : ℕ} → entry_at left u w ≡ Line x → Found left u (w + 1) later some
+      unfolding any
+      found_line e =
+          record { few = longer; listed = rw added (list-longer f.listed); always = rw (add-one w, e) (f.always ∙ sym (or-false _)) }
 
 -- What holds once the terms of the listed nodes before these are made.
-pub record PassedNodes (left right : Matrix) (u v first made middle : ℕ) (nodes start out lines : List ℕ) (count total : ℕ) : Type 0 where
+pub record PassedNodes (left right : Matrix) (u v middle : ℕ) (nodes : List ℕ) (g h : Gates) (lines : List ℕ) : Type 0 where
   pub w : ℕ
   pub rest : Listed left u middle w nodes
-  pub turned : Turned left right u v first made w start out lines count total
+  pub turned : Turned left right u v w g h lines
 
 -- What holds when the next of the listed nodes is x.
-pub record Next (left right : Matrix) (u v first made middle x : ℕ) (nodes start out lines : List ℕ) (count total : ℕ) : Type 0 where
+pub record Next (left right : Matrix) (u v middle x : ℕ) (nodes : List ℕ) (g h : Gates) (lines : List ℕ) : Type 0 where
   pub below : x < middle
   pub rest : Listed left u middle (suc x) nodes
-  pub turned : Turned left right u v first made x start out lines count total
+  pub turned : Turned left right u v x g h lines
 
-module _ {left right : Matrix} {u v first made middle count total : ℕ} {start out lines : List ℕ} (room : middle ≤ length lines) where
-  turned-never : {w : ℕ} → w < middle → entry_at left u w ≡ Never → Turned left right u v first made w start out lines count total →
-      Turned left right u v first made (suc w) start out lines count total
-  unfolding term
-  turned-never {w} h e t =
-      rw (← add-one w)
-      (turned_more left right u v {e = Never} (omega arith) t (rw e (written-return Never)) (omega arith) refl)
+turned-never : {left right : Matrix} {u v w : ℕ} {g h : Gates} {lines : List ℕ} → entry_at left u w ≡ Never →
+    Turned left right u v w g h lines → Turned left right u v (suc w) g h lines
+unfolding term
+turned-never {left} {right} {u} {v} {w} {lines = lines} e t =
+    rw (← add-one w) (turned_more left right u v {e = Never} t (rw e (written-return Never)) (sym (append-nil lines)))
 
-  find-next : {w x : ℕ} {nodes : List ℕ} → Listed left u middle w (x ∷ nodes) →
-      Turned left right u v first made w start out lines count total →
-      Next left right u v first made middle x nodes start out lines count total
-  find-next (dropped h e l) t = find-next l (turned-never h e t)
+module _ {left right : Matrix} {u v middle : ℕ} {g h : Gates} {lines : List ℕ} where
+  find-next : {w x : ℕ} {nodes : List ℕ} → Listed left u middle w (x ∷ nodes) → Turned left right u v w g h lines →
+      Next left right u v middle x nodes g h lines
+  find-next (dropped h e l) t = find-next l (turned-never e t)
   find-next (taken h e l) t = record { below = rw e h; rest = rw e l; turned = rw e t }
 
-  find-last : {w : ℕ} → Listed left u middle w [] → Turned left right u v first made w start out lines count total →
-      Turned left right u v first made middle start out lines count total
+  find-last : {w : ℕ} → Listed left u middle w [] → Turned left right u v w g h lines → Turned left right u v middle g h lines
   find-last (ended e) t = rw e at t
-  find-last (dropped h e l) t = find-last l (turned-never h e t)
+  find-last (dropped h e l) t = find-last l (turned-never e t)
 
-  pub passed-next : (i : ℕ) (nodes : List ℕ) → i < length nodes →
-      PassedNodes left right u v first made middle (drop i nodes) start out lines count total →
-      Next left right u v first made middle (get_or nodes i 0) (drop (i + 1) nodes) start out lines count total
+  pub passed-next : (i : ℕ) (nodes : List ℕ) → i < length nodes → PassedNodes left right u v middle (drop i nodes) g h lines →
+      Next left right u v middle (get_or nodes i 0) (drop (i + 1) nodes) g h lines
   passed-next i nodes h p = rw (add-one i) (find-next (rw (drop-cons nodes i 0 h) at p.rest) p.turned)
 
-  pub passed-last : (i : ℕ) (nodes : List ℕ) → i ≡ length nodes →
-      PassedNodes left right u v first made middle (drop i nodes) start out lines count total →
-      Turned left right u v first made middle start out lines count total
+  pub passed-last : (i : ℕ) (nodes : List ℕ) → i ≡ length nodes → PassedNodes left right u v middle (drop i nodes) g h lines →
+      Turned left right u v middle g h lines
   passed-last i nodes h p = find-last (rw (h, drop-length nodes) at p.rest) p.turned

@@ -1,8 +1,7 @@
 // Products of matrices of entries, and the gates that they make.
 #![tactic(auto)]
 
-mod cell;
+mod few;
 mod product;
 
-pub use cell::line_of;
-pub use product::multiply;
+pub use product::{Rows, multiply};

@@ -1,233 +1,160 @@
-// The product of two matrices that are stored by rows of eight lines.
-ghost use Rattle.std.specs.Prelude.{◌≡◌, ◌&&◌, ◌+◌, ◌≤◌, ◌<◌, [], ◌∷◌, length, get_or, take};
-ghost use Rattle.std.proofs.lemmas.List.Edits.{sets};
+// The product of two matrices of entries.
+ghost use Rattle.std.specs.Prelude.{◌≡◌, ◌≤◌, ◌<◌, ◌&&◌, get_or};
 ghost use Rattle.fields.specs.Bounded.{any};
-ghost use Rattle.rules.specs.Blocks.{is_always, entry_at, lines_in};
-ghost use Rattle.gates.specs.Inner.Written.{Written, Grown, RoomFor};
-ghost use Rattle.products.specs.Inner.Cells.{matrix_of, Stored, RowStored};
-ghost use Rattle.products.specs.Inner.Terms.{any_always, Listed, Collected};
-ghost use Rattle.products.specs.Inner.Terms.{stored_terms, stored_entry, stored_row, stored_product};
+ghost use Rattle.rules.specs.Blocks.{is_always, entry_at, lines_in, product_entry, product};
+ghost use Rattle.gates.specs.Inner.Written.{free_line, Written, Grown, RoomFor};
+ghost use Rattle.products.specs.Inner.Cells.{Stored, RowStored};
+ghost use Rattle.products.specs.Inner.Terms.{any_always, both_always, Listed, terms_of, row_of};
 
-use crate::cell;
-use gates::Joined;
+use crate::few::Few;
+use gates::Gates;
 use rules::Entry;
 
-// How many lines are among the terms, and the number of gates made so far.
-#[derive(Clone, Copy, Drop)]
-struct TermLines {
-    count: usize,
-    made: usize,
-}
+// A matrix by its rows of entries, of which as many count as the levels on both sides have nodes.
+pub type Rows = [[Entry; 8]; 8];
 
-// How many middle nodes of a row are listed, and whether some factor in the row is always.
-#[derive(Clone, Copy, Drop)]
+// The factors of a row: the middle nodes whose factor is not never, upward, and whether some factor is always.
+#[derive(Drop)]
 struct Factors {
-    listed: usize,
+    nodes: Few<usize>,
     some: bool,
 }
 
-// Whether a term is always: both factors are.
-fn sure(left: Entry, right: Entry) -> bool
-    ensures { result ≡ (is_always left && is_always right) }
+// The factors of row u.
+fn factors_of(left: &Rows, middle: usize, u: usize) -> Factors
+    requires { (middle ≤ 8) × (u < 8) }
+    ensures listed { Listed left.now u middle 0 result.nodes }
+    ensures some_value { result.some ≡ any_always middle left.now u }
 {
-    match left {
-        Entry::Never => false,
-        Entry::Always => cell::is_always(right),
-        Entry::Line(_) => false,
-    }
-}
-
-// Lists the middle nodes whose factor in row u is not never to `nodes`, upward. Returns how many are listed, and whether some
-// factor in row u is always.
-fn list_nodes(left: &[u16], middle: usize, u: usize, nodes: &mut [usize]) -> Factors
-    requires { (middle ≤ 8) × (u < 8) × (64 ≤ length left.now) × (8 ≤ length nodes.old) }
-    ensures listed_le_middle { (result.listed ≤ middle)
-        × Listed (matrix_of left.now) u middle 0 (take result.listed nodes.new) }
-    ensures some_value { result.some ≡ any_always middle (matrix_of left.now) u }
-{
-    let mut listed = 0;
+    let mut nodes = Few::new(0);
     let mut some = false;
     for w in 0..middle {
-        let line = left[8 * u + w];
-        nodes[listed] = w;
-        if line != 0 {
-            listed = listed + 1;
-        }
-        if line == 1 {
-            some = true;
+        match left[u][w] {
+            Entry::Never => {}
+            Entry::Always => {
+                nodes.push(w);
+                some = true;
+            }
+            Entry::Line(_) => nodes.push(w),
         }
     }
     Factors {
-        listed: listed,
+        nodes: nodes,
         some: some,
     }
 }
 
-// Whether some term of the entry in row u and column v is always; `some` says whether a factor in row u is.
-fn crosses(left: &[u16], right: &[u16], middle: usize, u: usize, v: usize, some: bool) -> bool
-    requires middle_bound { (middle ≤ 8) × (u < 8) × (v < 8)
-        × (64 ≤ length left.now) × (64 ≤ length right.now) }
-    requires some_value { some ≡ any_always middle (matrix_of left.now) u }
-    ensures { result ≡ any middle (λ w.
-        is_always (entry_at (matrix_of left.now) u w) && is_always (entry_at (matrix_of right.now) w v)) }
+// Whether a term is always: both factors are.
+fn are_always(left: Entry, right: Entry) -> bool
+    ensures { result ≡ (is_always left && is_always right) }
+{
+    matches!((left, right), (Entry::Always, Entry::Always))
+}
+
+// Whether some term of the entry in row u and column v is always; none is unless some factor in row u is.
+fn crosses(left: &Rows, right: &Rows, middle: usize, u: usize, v: usize, some: bool) -> bool
+    requires middle_bound { (middle ≤ 8) × (u < 8) × (v < 8) }
+    requires some_value { some ≡ any_always middle left.now u }
+    ensures { result ≡ any middle (both_always left.now right.now u v) }
 {
     if !some {
         return false;
     }
     for w in 0..middle {
-        let factor = cell::cell(left, u, w);
-        if sure(factor, cell::cell(right, w, v)) {
+        if are_always(left[u][w], right[w][v]) {
             return true;
         }
     }
     false
 }
 
-// Adds a term to the lines collected so far, if it is a line.
-fn collect(entry: Entry, lines: &mut [u16], count: usize) -> usize
-    requires { count < length lines.old }
-    ensures { (result ≡ count + length (lines_in (entry ∷ [])))
-        × (lines.new ≡ sets lines.old count (lines_in (entry ∷ []))) }
+// The lines among the terms of the entry in row u and column v, in sequence. Terms of middle nodes that are not listed are never.
+fn terms(
+    left: &Rows,
+    right: &Rows,
+    middle: usize,
+    u: usize,
+    v: usize,
+    nodes: &[usize],
+    gates: &mut Gates,
+) -> Few<u16>
+    requires middle_bound { (middle ≤ 8) × (u < 8) × (v < 8) }
+    requires listed { Listed left.now u middle 0 nodes.now }
+    requires room_for { RoomFor (terms_of middle left.now right.now u v) gates.old }
+    ensures grown { Grown (terms_of middle left.now right.now u v) gates.old gates.new }
+    ensures lines { result ≡ lines_in (terms_of middle left.now right.now u v (free_line gates.old)).1 }
 {
-    match entry {
-        Entry::Never => count,
-        Entry::Always => count,
-        Entry::Line(x) => {
-            lines[count] = x;
-            count + 1
+    let mut lines = Few::new(0);
+    for w in nodes {
+        if let Entry::Line(line) = gates.term(left[u][*w], right[*w][v]) {
+            lines.push(line);
         }
     }
+    lines
 }
 
-// The terms of the entry in row u and column v; the lines among them go to `lines`, in sequence. Terms of middle nodes that are
-// not among those used are never.
-fn terms(
-    left: &[u16],
-    right: &[u16],
-    middle: usize,
-    u: usize,
-    v: usize,
-    used: &[usize],
-    lines: &mut [u16],
-    out: &mut [u8],
-    first: usize,
-    made: usize,
-) -> TermLines
-    requires middle_bound { (middle ≤ 8) × (u < 8) × (v < 8)
-        × (64 ≤ length left.now) × (64 ≤ length right.now) × (middle ≤ length lines.old) }
-    requires listed { Listed (matrix_of left.now) u middle 0 used.now }
-    requires room_for { RoomFor (stored_terms middle left.now right.now u v) first made out.old }
-    ensures grown { Grown (stored_terms middle left.now right.now u v) first made
-        out.old out.new result.made }
-    ensures collected { Collected (stored_terms middle left.now right.now u v (first + made)).1
-        lines.new result.count }
-{
-    let mut count = 0;
-    let mut total = made;
-    for i in 0..used.len() {
-        let w = used[i];
-        let factor = cell::cell(left, u, w);
-        let joined = gates::term(factor, cell::cell(right, w, v), out, first, total);
-        total = joined.made;
-        let found = joined.entry;
-        count = collect(found, lines, count);
-    }
-    TermLines {
-        count: count,
-        made: total,
-    }
-}
-
-// The entry in row u and column v: always if a term is, else the OR tree of the terms that are lines. `some` says whether a factor
-// in row u is always, and `used` are the middle nodes whose factor in row u is not never.
+// The entry in row u and column v: always if a term is, else the OR tree of the terms that are lines.
 fn entry(
-    left: &[u16],
-    right: &[u16],
+    left: &Rows,
+    right: &Rows,
     middle: usize,
     u: usize,
     v: usize,
-    some: bool,
-    used: &[usize],
-    out: &mut [u8],
-    first: usize,
-    made: usize,
-) -> Joined
-    requires middle_bound { (middle ≤ 8) × (u < 8) × (v < 8)
-        × (64 ≤ length left.now) × (64 ≤ length right.now) }
-    requires some_value { some ≡ any_always middle (matrix_of left.now) u }
-    requires listed { Listed (matrix_of left.now) u middle 0 used.now }
-    requires room_for { RoomFor (stored_entry middle left.now right.now u v) first made out.old }
-    ensures { Written (stored_entry middle left.now right.now u v) first made
-        out.old out.new result.entry result.made }
+    factors: &Factors,
+    gates: &mut Gates,
+) -> Entry
+    requires middle_bound { (middle ≤ 8) × (u < 8) × (v < 8) }
+    requires some_value { factors.now.some ≡ any_always middle left.now u }
+    requires listed { Listed left.now u middle 0 factors.now.nodes }
+    requires room_for { RoomFor (product_entry middle left.now right.now u v) gates.old }
+    ensures { Written (product_entry middle left.now right.now u v) gates.old gates.new result }
 {
-    if crosses(left, right, middle, u, v, some) {
-        return Joined {
-            entry: Entry::Always,
-            made: made,
-        };
+    if crosses(left, right, middle, u, v, factors.some) {
+        return Entry::Always;
     }
-    let mut kept = [0u16; 8];
-    let found = terms(left, right, middle, u, v, used, &mut kept, out, first, made);
-    gates::join_lines(&kept, found.count, out, first, found.made)
+    let lines = terms(left, right, middle, u, v, factors.nodes.as_slice(), gates);
+    gates.join_lines(lines.as_slice())
 }
 
 // Row u of a product, its entries by column.
 fn row(
-    left: &[u16],
-    right: &[u16],
+    left: &Rows,
+    right: &Rows,
     middle: usize,
     columns: usize,
     u: usize,
-    cells: &mut [u16],
-    out: &mut [u8],
-    first: usize,
-    made: usize,
-) -> usize
-    requires middle_bound { (middle ≤ 8) × (columns ≤ 8) × (u < 8)
-        × (64 ≤ length left.now) × (64 ≤ length right.now) × (64 ≤ length cells.old) }
-    requires le_first { (2 ≤ first) × RoomFor (stored_row middle left.now right.now columns u) first made out.old }
-    ensures grown { Grown (stored_row middle left.now right.now columns u) first made
-        out.old out.new result }
-    ensures row_stored { RowStored cells.old cells.new u columns
-        (λ v. get_or (stored_row middle left.now right.now columns u (first + made)).1 v Entry.Never) }
+    gates: &mut Gates,
+    cells: &mut [Entry; 8],
+)
+    requires middle_bound { (middle ≤ 8) × (columns ≤ 8) × (u < 8) }
+    requires room_for { RoomFor (row_of middle left.now right.now columns u) gates.old }
+    ensures grown { Grown (row_of middle left.now right.now columns u) gates.old gates.new }
+    ensures row_stored { RowStored cells.new
+        (λ v. get_or (row_of middle left.now right.now columns u (free_line gates.old)).1 v Entry.Never) columns }
 {
-    let mut nodes = [0usize; 8];
-    let factors = list_nodes(left, middle, u, &mut nodes);
-    let used = &nodes[..factors.listed];
-    let some = factors.some;
-    let mut total = made;
+    let factors = factors_of(left, middle, u);
     for v in 0..columns {
-        let joined = entry(left, right, middle, u, v, some, used, out, first, total);
-        let found = joined.entry;
-        cells[8 * u + v] = cell::line_of(found);
-        total = joined.made;
+        cells[v] = entry(left, right, middle, u, v, &factors, gates);
     }
-    total
 }
 
-// A product, row by row; its gates follow the `made` ones, and its matrix goes to the cells.
+// A product, row by row: its gates follow those made before, and its matrix goes to the cells.
 pub fn multiply(
-    left: &[u16],
-    right: &[u16],
+    left: &Rows,
+    right: &Rows,
     rows: usize,
     middle: usize,
     columns: usize,
-    cells: &mut [u16],
-    out: &mut [u8],
-    first: usize,
-    made: usize,
-) -> usize
-    requires rows_bound { (rows ≤ 8) × (middle ≤ 8) × (columns ≤ 8)
-        × (64 ≤ length left.now) × (64 ≤ length right.now) × (64 ≤ length cells.old) }
-    requires le_first { (2 ≤ first) × RoomFor (stored_product rows middle columns left.now right.now) first made out.old }
-    ensures grown { Grown (stored_product rows middle columns left.now right.now) first made
-        out.old out.new result }
+    gates: &mut Gates,
+    cells: &mut Rows,
+)
+    requires rows_bound { (rows ≤ 8) × (middle ≤ 8) × (columns ≤ 8) }
+    requires room_for { RoomFor (product rows middle columns left.now right.now) gates.old }
+    ensures grown { Grown (product rows middle columns left.now right.now) gates.old gates.new }
     ensures stored { Stored cells.new
-        (entry_at (stored_product rows middle columns left.now right.now (first + made)).1) rows columns }
+        (entry_at (product rows middle columns left.now right.now (free_line gates.old)).1) rows columns }
 {
-    let mut total = made;
     for u in 0..rows {
-        total = row(left, right, middle, columns, u, cells, out, first, total);
+        row(left, right, middle, columns, u, gates, &mut cells[u]);
     }
-    total
 }

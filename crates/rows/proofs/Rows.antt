@@ -1,5 +1,5 @@
 -- Truth tables one after the other are blocks, each at a multiple of its length, and give the functions of their values.
-use Prim.Native.Nat.{ℕ, suc, ◌+◌, ◌*◌, ◌-◌, ◌/◌, ◌%◌, ◌^◌, ◌≤◌, ◌<◌}
+use Prim.Native.Nat.{ℕ, zero, suc, ◌+◌, ◌*◌, ◌-◌, ◌/◌, ◌%◌, ◌^◌, ◌≤◌, ◌<◌}
 use native.Mathlib.Decide.{ℕ_discrete, dec_le}
 use native.Mathlib.Nat.{mul-le-mul_right, mul_assoc, mul_left_comm, mul-mod_left, mod_self, div-add-mod', suc-mul}
 use native.Mathlib.Omega.{arith}
@@ -8,6 +8,10 @@ use mathlib.Core.Logic.{by_cases}
 use mathlib.Core.List.{List}
 use lib.ListN.{length, get_or}
 use lib.Pow.{pow-add, pow_mono, shl_exact}
+use denote.Param.Members.{Mut}
+use Rattle.std.proofs.lemmas.List.{get_or_default}
+use Rattle.std.specs.Array.{IsFromFnResultFrom}
+use Rattle.std.specs.Fn.{Called}
 use Rattle.diagram.specs.Diagram.{Input}
 use Rattle.bits.specs.Inner.Bits.{bit_of}
 use Rattle.functions.specs.Functions.{functions_of}
@@ -17,6 +21,16 @@ use Rattle.canonical.specs.Service.{tabling_of}
 use Rattle.canonical.proofs.Outcomes.{tabling-same}
 use Rattle.canonical.proofs.Tabulated.{block-is}
 use Rattle.rows.specs.Inner.Rows.{row_at, Word, Tabulated}
+
+-- What an array made by a function holds, if the function computes h and stays as it was.
+pub made : {F : Type 0} (g : Mut F (ℕ × Unit {0}) ℕ) (f : F) (ys : List ℕ) (h : ℕ → ℕ) →
+    ((i y : ℕ) (q : F) → Called g f (i, tt) y q → (q ≡ f) × (y ≡ h i)) → (n i : ℕ) → IsFromFnResultFrom g f ys i n →
+    (k : ℕ) → i ≤ k → k < i + n → get_or ys k 0 ≡ h k
+made g f ys h law zero i e k a b = absurd (omega arith)
+made g f ys h law (suc n) i (q, y, at, called, rest) k a b =
+    let (stays, is) = law i y q called in
+    by_cases (ℕ_discrete k i) (λ e. rw e (at.1 0 ∙ is))
+    (λ ne. made g f ys h law n (i + 1) (rw stays at rest) k (omega arith) (omega arith))
 
 pub words-few : (n : ℕ) → n ≤ 12 → 2 ^ (n - 6) ≤ 64
 words-few n h = pow_mono {j = 6} (omega arith)
@@ -55,20 +69,20 @@ whole_row n j =
     ap (λ (k : ℕ). k % 2 ^ n) (mul_left_comm 64 j words ∙ ap (◌*◌ j) e ∙ sym (mul_assoc j a (2 ^ n))) ∙ mul-mod_left (j * a) (2 ^ n)
 
 -- The rows by the places where they begin.
-module _ (n m : ℕ) (truths starts : List ℕ) (begins : (j : ℕ) → j < m → get_or starts j 0 ≡ 64 * (j * 2 ^ (n - 6))) where
-  pub row-blocks : m ≤ length starts → m * 2 ^ (n - 6) ≤ length truths → Blocks truths n m starts
-  row-blocks h room =
-      record {
-        listed = h;
-        each = λ j l. rw (begins j l) (record {
-          whole = whole_row n j;
-          within = omega (arith, (words-enough n).0, row_room n j m (length truths) l room);
-        });
-      }
+module _ (n m : ℕ) (truths starts : List ℕ) (count : length starts ≡ m)
+    (begins : (j : ℕ) → j < m → get_or starts j 0 ≡ 64 * (j * 2 ^ (n - 6))) where
+  pub row-blocks : m * 2 ^ (n - 6) ≤ length truths → Blocks truths n starts
+  row-blocks room j d l =
+      rw (get_or_default starts j d 0 l, begins j (omega arith)) (record {
+        whole = whole_row n j;
+        within = omega (arith, (words-enough n).0, row_room n j m (length truths) (omega arith) room);
+      })
 
-  pub rows-begin : (buffer : List ℕ) → tabling_of n m (mention_at truths n starts) buffer ≡ tabling_of n m (row_at truths n) buffer
+  pub rows-begin : (buffer : List ℕ) →
+      tabling_of n (length starts) (mention_at truths n starts) buffer ≡ tabling_of n m (row_at truths n) buffer
   rows-begin buffer =
-      tabling-same n m (mention_at truths n starts) (row_at truths n) buffer (λ j h. ap (block_at truths n) (begins j h))
+      ap (λ (m : ℕ). tabling_of n m (mention_at truths n starts) buffer) count
+      ∙ tabling-same n m (mention_at truths n starts) (row_at truths n) buffer (λ j h. ap (block_at truths n) (begins j h))
 
 -- One row more.
 pub no_rows : (n : ℕ) (v : ℕ → Input → ℕ) (truths : List ℕ) → Tabulated n 0 v truths

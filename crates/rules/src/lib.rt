@@ -9,3 +9,19 @@ pub enum Entry {
     Always,
     Line(u16),
 }
+
+impl From<Entry> for u16 {
+    ghost use Rattle.std.specs.Prelude.{◌≡◌};
+    ghost use Rattle.rules.specs.Board.{line_of};
+
+    ghost from_gives = { λ entry line. line ≡ line_of entry };
+
+    // The line that stands for an entry: line 0 for never, line 1 for always.
+    fn from(entry: Entry) -> u16 {
+        match entry {
+            Entry::Never => 0,
+            Entry::Always => 1,
+            Entry::Line(line) => line,
+        }
+    }
+}

@@ -6,28 +6,29 @@ use mathlib.Core.Bool.{true}
 use mathlib.Core.List.{List}
 use lib.ListN.{length}
 use Rattle.fields.proofs.Bounded.{all_of}
-use Rattle.netlist.specs.Netlist.{gates_of, pairs_of, pair_at, net_with}
+use Rattle.netlist.specs.Netlist.{pair_at}
 use Rattle.netlist.proofs.Lists.{length-gates}
 use Rattle.wiring.specs.Questions.{is_pair, are_pairs}
-use Rattle.wiring.proofs.Opened.{Opened, few-contacts, gates-wired, bounded}
+use Rattle.wiring.specs.declared.parts.Parts.{Parts}
+use Rattle.wiring.specs.Inner.Read.{netlist_by, IsSound}
+use Rattle.wiring.proofs.Opened.{gates-sound}
 use Rattle.wiring.proofs.Tests.{pairs-at, in_pair}
 use Rattle.simulation.proofs.Answers.{driven, driven-bits, ordered}
 use Rattle.simulation.proofs.Whole.{Taken}
 use Rattle.evaluation.specs.Inner.Walk.{Ready}
 
-pub ready : {file : List ℕ} {n : ℕ} {gates outputs lamp : List ℕ} (rails holds : List ℕ) (place room pairs : ℕ) →
-    Opened file n gates outputs lamp → Taken (net_with n (gates_of gates) (pairs_of outputs) (pairs_of lamp)) rails holds place room pairs →
-    Ready gates rails holds room
-ready {n = n} {gates = gates} rails holds place room pairs o t =
-    let l = driven n rails t.driven in
-    let few = few-contacts o in
-    let many = length-gates gates in
+pub ready : (p : Parts) (rails holds : List ℕ) (place room pairs : ℕ) → IsSound p → Taken (netlist_by p) rails holds place room pairs →
+    Ready p.gates.now rails holds room
+ready p rails holds place room pairs s t =
+    let l = driven p.contacts rails t.driven in
+    let few = p.few_contacts in
+    let many = length-gates p.gates.now in
     record {
       few = omega arith;
-      many = rw many at (bounded o).gates;
+      many = p.few_gates;
       fits = omega (arith, t.room);
-      bits = driven-bits n rails t.driven;
-      wired = rw l (gates-wired o);
+      bits = driven-bits p.contacts rails t.driven;
+      wired = rw l (gates-sound _ _ _ _ s);
       sorted = rw l (ordered _ _ holds (rw many at t.ordered));
     }
 

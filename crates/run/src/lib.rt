@@ -3,19 +3,22 @@
 
 ghost use Rattle.std.specs.Prelude.{◌≡◌, true, ◌++◌, map, ◌+◌, ◌*◌, ◌/◌, ◌≤◌, length};
 ghost use Rattle.std.proofs.lemmas.List.Edits.{sets};
+ghost use Rattle.files.specs.Refusals.{number_in};
 ghost use Rattle.files.specs.Room.{over};
 ghost use Rattle.netlist.specs.Netlist.{pairs_of};
 ghost use Rattle.wiring.specs.Questions.{are_pairs};
-ghost use Rattle.wiring.specs.Inner.Read.{Read};
+ghost use Rattle.wiring.specs.Inner.Read.{netlist_by, IsSound};
 ghost use Rattle.simulation.specs.Run.{shown_of};
-ghost use Rattle.simulation.specs.Service.{read_back, step_of, run_of};
-ghost use Rattle.run.specs.Inner.Asking.{asking_of};
+ghost use Rattle.simulation.specs.Service.{read_back, stepped_or, step_of, run_of};
+ghost use Rattle.run.specs.Stepped.{place_in, stepped, ran};
+ghost use Rattle.run.specs.Inner.Asking.{asking_by};
 
 use drive::{Holds, Place, Rails};
-use files::Room;
+use files::{Refusal, Room};
+use netlist::Pair;
 use wiring::Parts;
 
-// What a step returns: its refusal, or 0, and its place out.
+// What a step returns to C: its place out, or the number of its refusal.
 #[repr(C)]
 #[derive(Clone, Copy, Drop)]
 pub struct Stepped {
@@ -23,13 +26,21 @@ pub struct Stepped {
     pub place: u32,
 }
 
-// A refusal's place is 0.
-fn refused(refusal: u32) -> Stepped
-    ensures { (result.refusal ≡ refusal) × (result.place ≡ 0) }
-{
-    Stepped {
-        refusal: refusal,
-        place: 0,
+impl From<Result<u32, Refusal>> for Stepped {
+    ghost from_gives = { λ x s. (s.refusal ≡ number_in x) × (s.place ≡ place_in x) };
+
+    // A refusal's place is 0.
+    fn from(stepped: Result<u32, Refusal>) -> Stepped {
+        match stepped {
+            Ok(place) => Stepped {
+                refusal: 0,
+                place: place,
+            },
+            Err(refusal) => Stepped {
+                refusal: refusal.number(),
+                place: 0,
+            },
+        }
     }
 }
 
@@ -40,8 +51,8 @@ fn show_pairs(outputs: &[u8], lines: &[u8], before: usize, pairs: &mut [u8])
     ensures { pairs.new
         ≡ sets pairs.old (2 * before) (shown_of (pairs_of outputs.now) (map read_back lines.now)) }
 {
-    for j in 0..outputs.len() / 4 {
-        let pair = netlist::pair_at(outputs, j);
+    for (j, output) in outputs.as_chunks::<4>().0.iter().enumerate() {
+        let pair = Pair::from(output);
         let at = 2 * (before + j);
         pairs[at] = evaluation::read_back(lines[pair.on as usize]);
         pairs[at + 1] = evaluation::read_back(lines[pair.off as usize]);
@@ -62,77 +73,60 @@ fn show(outputs: &[u8], lamp: &[u8], lines: &[u8], pairs: &mut [u8])
     show_pairs(lamp, lines, outputs.len() / 4, pairs);
 }
 
-// Questions 13, 14, 21 and 9 of a netlist of n contacts and so many lines and pairs; 9 for either buffer, by its length.
+// Questions 13, 14, 21 and 9 of a netlist that has been read; 9 for either buffer, by its length.
 fn ask(
-    n: usize,
-    count: usize,
-    shown: usize,
+    parts: &Parts<'_>,
     rails: &[u8],
     holds: &[u8],
     place: usize,
     lines: usize,
     pairs: usize,
-) -> u32
-    requires { (n ≤ 12) × (shown ≤ 9) }
-    ensures { result ≡ asking_of n count shown rails.now holds.now place lines pairs }
+) -> Result<(), Refusal>
+    ensures { number_in result ≡ asking_by parts.now rails.now holds.now place lines pairs }
 {
-    let Rails::Driven = drive::ask_rails(n, rails) else {
-        return 13;
+    let count = parts.line_count();
+    let Rails::Driven = drive::ask_rails(parts.contacts, rails) else {
+        return Err(Refusal::Rails);
     };
-    let Holds::Ordered = drive::ask_holds(2 + 2 * n, count, holds) else {
-        return 14;
+    let Holds::Ordered = drive::ask_holds(parts.gate_line(), count, holds) else {
+        return Err(Refusal::Holds);
     };
     let Place::Within = drive::ask_place(count, place) else {
-        return 21;
+        return Err(Refusal::Place);
     };
     let Room::Enough = files::ask_room(count, lines) else {
-        return 9;
+        return Err(Refusal::Room);
     };
-    let Room::Enough = files::ask_room(2 * shown, pairs) else {
-        return 9;
+    let Room::Enough = files::ask_room(2 * parts.pair_count(), pairs) else {
+        return Err(Refusal::Room);
     };
-    0
+    Ok(())
 }
 
 // A step of a netlist that has been read: what both services do.
 fn step_read(
-    netlist: &[u8],
-    parts: Parts,
+    parts: &Parts<'_>,
     rails: &[u8],
     holds: &[u8],
     place: u32,
     count: u32,
     lines: &mut [u8],
     pairs: &mut [u8],
-) -> Stepped
-    requires { Read netlist.now parts }
-    ensures { record { refusal = result.refusal; place = result.place; lines = lines.new; pairs = pairs.new }
-        ≡ step_of netlist.now rails.now holds.now place count lines.old pairs.old }
+) -> Result<u32, Refusal>
+    requires { IsSound parts.now }
+    ensures { stepped result lines.new pairs.new
+        ≡ stepped_or (asking_by parts.now rails.now holds.now place (length lines.old) (length pairs.old)) (netlist_by parts.now)
+        rails.now holds.now place count lines.old pairs.old }
 {
-    let refusal = parts.refusal;
-    if refusal != 0 {
-        return refused(refusal);
-    }
-    let n = parts.contacts;
-    let gates = fields::value(netlist, parts.gates);
-    let outputs = fields::value(netlist, parts.outputs);
-    let lamp = fields::value(netlist, parts.lamp);
-    let end = 2 + 2 * n + gates.len() / 5;
-    let shown = outputs.len() / 4 + lamp.len() / 4;
     let from = place as usize;
-    let no = ask(n, end, shown, rails, holds, from, lines.len(), pairs.len());
-    if no != 0 {
-        return refused(no);
-    }
-    let to = evaluation::lesser(from + count as usize, end);
-    evaluation::work_out(gates, rails, holds, from, to, lines);
+    ask(parts, rails, holds, from, lines.len(), pairs.len())?;
+    let end = parts.line_count();
+    let to = (from + count as usize).min(end);
+    evaluation::work_out(parts.gates, rails, holds, from, to, lines);
     if to == end {
-        show(outputs, lamp, lines, pairs);
+        show(parts.outputs, parts.lamp, lines, pairs);
     }
-    Stepped {
-        refusal: 0,
-        place: to as u32,
-    }
+    Ok(to as u32)
 }
 
 // Sets the constants and works out so many lines from a place on, or all that are left if these are fewer, with lines and pins held;
@@ -146,20 +140,26 @@ pub fn step(
     count: u32,
     lines: &mut [u8],
     pairs: &mut [u8],
-) -> Stepped
-    ensures { record { refusal = result.refusal; place = result.place; lines = lines.new; pairs = pairs.new }
+) -> Result<u32, Refusal>
+    ensures { stepped result lines.new pairs.new
         ≡ step_of netlist.now rails.now holds.now place count lines.old pairs.old }
 {
-    let parts = wiring::read(netlist);
-    step_read(netlist, parts, rails, holds, place, count, lines, pairs)
+    let parts = wiring::read(netlist)?;
+    step_read(&parts, rails, holds, place, count, lines, pairs)
 }
 
 // Works out every line's value with lines and pins held: one step from line 2 over all lines.
-pub fn run(netlist: &[u8], rails: &[u8], holds: &[u8], lines: &mut [u8], pairs: &mut [u8]) -> u32
-    ensures { record { refusal = result; lines = lines.new; pairs = pairs.new }
+pub fn run(
+    netlist: &[u8],
+    rails: &[u8],
+    holds: &[u8],
+    lines: &mut [u8],
+    pairs: &mut [u8],
+) -> Result<(), Refusal>
+    ensures { ran result lines.new pairs.new
         ≡ run_of netlist.now rails.now holds.now lines.old pairs.old }
 {
-    let parts = wiring::read(netlist);
-    let stepped = step_read(netlist, parts, rails, holds, 2, 4_294_967_295, lines, pairs);
-    stepped.refusal
+    let parts = wiring::read(netlist)?;
+    step_read(&parts, rails, holds, 2, u32::MAX, lines, pairs)?;
+    Ok(())
 }

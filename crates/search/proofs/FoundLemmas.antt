@@ -4,6 +4,7 @@ use native.Mathlib.Omega.{arith}
 use native.Mathlib.Decide.{dec_lt}
 use mathlib.Core.Path.{◌≡◌, refl, sym, ap, ap₂, ◌∙◌}
 use mathlib.Core.Bool.{Bool, true, false, cond}
+use Rattle.std.proofs.Common.{Option, Some, None}
 use Rattle.diagram.specs.Diagram.{bit}
 use Rattle.diagram.proofs.Inputs.{bit-true}
 use Rattle.netlist.specs.declared.Hold.{Hold}
@@ -13,8 +14,6 @@ use Rattle.bits.specs.Inner.Bits.{bit_of}
 use Rattle.bits.proofs.Bits.{bit-zero}
 use Rattle.fields.proofs.Bounded.{any_at, any-not}
 use Rattle.fields.proofs.Least.{least-is}
-use Rattle.search.specs.declared.inputs.Found.{Found}
-use Rattle.search.specs.declared.inputs.Found.TheVariants.{At, Nowhere}
 use Rattle.search.specs.Inner.Found.{found_in}
 use Rattle.search.proofs.Within.{first-within}
 
@@ -23,11 +22,11 @@ clear-false true e = absurd (omega arith)
 clear-false false e = refl
 
 module _ (net : Netlist) (h : Hold) where
-  abbrev answer : Bool → ℕ → Found
-  answer seen input = cond seen (At input) Nowhere
+  abbrev answer : Bool → ℕ → Option ℕ
+  answer seen input = cond seen (Some input) None
 
   -- No code input betrays.
-  pub nowhere : ((a : ℕ) → a < 2 ^ net.contacts → betrays net h a ≡ false) → Nowhere ≡ found_in net h
+  pub nowhere : ((a : ℕ) → a < 2 ^ net.contacts → betrays net h a ≡ false) → None ≡ found_in net h
   unfolding is_seen
   nowhere none = ap (λ (b : Bool). answer b (smallest_input net h)) (sym (any-not (betrays net h) (2 ^ net.contacts) none))
 
@@ -47,7 +46,7 @@ module _ (net : Netlist) (h : Hold) where
     pub clear-all : mask ≡ 0 → (a : ℕ) → a < base + 64 → betrays net h a ≡ false
     clear-all e = clear 64 (λ k _. ap (bit_of k) e ∙ bit-zero k) (omega arith)
 
-    pub found : (t : ℕ) → t < 64 → bit_of t mask ≡ 1 → ((k : ℕ) → k < t → bit_of k mask ≡ 0) → At (base + t) ≡ found_in net h
+    pub found : (t : ℕ) → t < 64 → bit_of t mask ≡ 1 → ((k : ℕ) → k < t → bit_of k mask ≡ 0) → Some (base + t) ≡ found_in net h
     unfolding is_seen
     found t l e low =
         let below = clear t low (omega arith) in

@@ -3,7 +3,7 @@ pub mod Within
 pub mod FoundLemmas
 pub mod Sites
 pub mod Lines
-pub mod Sources
+pub mod Taken
 pub mod GateBatches
 pub mod Agree
 pub mod Masks

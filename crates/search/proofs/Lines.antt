@@ -5,7 +5,7 @@ use native.Mathlib.Omega.{arith}
 use mathlib.Core.Path.{◌≡◌, refl, sym, ap, ap₂, ◌∙◌}
 use mathlib.Core.Bool.{Bool, true, false, not, cond}
 use mathlib.Core.List.{List, [], ◌∷◌, ◌++◌, append_assoc, map, map-append}
-use lib.Bits.{bit_and, bit_or, bit_xor}
+use lib.Bits.{bit_and, bit_or}
 use lib.Dec.{eqb}
 use lib.ListN.{length, get_or, take, set, length-map, length-set}
 use lib.Seq.{length-take-le, take-suc-set, get_or-take}
@@ -21,7 +21,7 @@ use Rattle.faults.specs.Betrayal.{stuck_at}
 use Rattle.batches.specs.Inner.Batches.{gate_batch, held_batch, held_line, source_of, rule_of}
 use Rattle.search.proofs.Sites.{taken, held-once, sourced-gate}
 use Rattle.bits.specs.Inner.Bits.{bit_of, bits_of}
-use Rattle.bits.proofs.Bits.{ones, bit-zero, bit-ones, bits_at, bit-and, bit-or, bit-flip}
+use Rattle.bits.proofs.Bits.{bits_at, bit-and, bit-or}
 
 pub made-bit : (k word kind a b : ℕ) → kind ≤ 1 → bit_of k word ≡ kind →
     bit_of k (gate_batch word a b) ≡ gate_of kind (bit_of k a) (bit_of k b)
@@ -66,14 +66,14 @@ module _ (k : ℕ) (h : Hold) where
       ∙ sym (run-append (rule_of h) ds (d ∷ []) vs))
 
   -- A contact's two rails more.
-  pub rails-more : (ws vs : List ℕ) (x : Input) (i line batch on t f : ℕ) → gate_line (i + 1) ≤ length ws → k < 64 →
-      line ≡ held_line h 0 → bit_of k batch ≡ level_of h → bit_of k on ≡ bit (x i) →
-      t ≡ held_batch line batch (2 + 2 * i) on → f ≡ held_batch line batch (2 + 2 * i + 1) (bit_xor on ones) →
+  pub rails-more : (ws vs : List ℕ) (x : Input) (i line batch on off t f : ℕ) → gate_line (i + 1) ≤ length ws →
+      line ≡ held_line h 0 → bit_of k batch ≡ level_of h → bit_of k on ≡ bit (x i) → bit_of k off ≡ bit (not (x i)) →
+      t ≡ held_batch line batch (2 + 2 * i) on → f ≡ held_batch line batch (2 + 2 * i + 1) off →
       bits_of k (take (gate_line i) ws) ≡ work_out (rule_of h) (map rail (code_rails i x)) vs →
       bits_of k (take (gate_line (i + 1)) (set (set ws (2 + 2 * i) t) (2 + 2 * i + 1) f))
       ≡ work_out (rule_of h) (map rail (code_rails (i + 1) x)) vs
   unfolding code_rails drive
-  rails-more ws vs x i line batch on t f l lk el ev eo et ef e =
+  rails-more ws vs x i line batch on off t f l el ev eo en et ef e =
       let rails = map rail (code_rails i x) in
       let on-rail = rail (bit (x i)) in
       let off-rail = rail (bit (not (x i))) in
@@ -81,7 +81,7 @@ module _ (k : ℕ) (h : Hold) where
       let next : gate_line (i + 1) ≡ 2 + 2 * i + 1 + 1 = omega arith in
       rw next
       (put-line (set ws (2 + 2 * i) t) vs (2 + 2 * i + 1) f (rails ++ (on-rail ∷ [])) off-rail room
-      (rail-bit (2 + 2 * i + 1) (bit (not (x i))) line batch (bit_xor on ones) f (omega arith) el ev (bit-flip k on (x i) lk eo) ef)
+      (rail-bit (2 + 2 * i + 1) (bit (not (x i))) line batch off f (omega arith) el ev en ef)
       (put-line ws vs (2 + 2 * i) t rails on-rail (omega arith) (rail-bit (2 + 2 * i) (bit (x i)) line batch on t (omega arith) el ev eo et) e)
       ∙ ap (λ (ds : List (Driver ℕ)). work_out (rule_of h) ds vs)
       (append_assoc rails (on-rail ∷ []) (off-rail ∷ [])
@@ -113,10 +113,11 @@ module _ (k : ℕ) (h : Hold) where
       (sym (ap (map gate) (listed_more (gate_at gates) g) ∙ map-append gate (listed (gate_at gates) g 0) (gate_at gates g ∷ []))))
 
 -- The constants' batches.
-pub constants : (k : ℕ) (ws : List ℕ) → k < 64 → 2 ≤ length ws → bits_of k (take 2 (set (set ws 0 0) 1 ones)) ≡ 0 ∷ 1 ∷ []
-constants k [] l h = absurd (omega arith)
-constants k (a ∷ []) l h = absurd (omega arith)
-constants k (a ∷ b ∷ ws) l h = ap₂ (λ (x y : ℕ). x ∷ y ∷ []) (bit-zero k) (bit-ones k l)
+pub constants : (k : ℕ) (ws : List ℕ) (low high : ℕ) → bit_of k low ≡ 0 → bit_of k high ≡ 1 → 2 ≤ length ws →
+    bits_of k (take 2 (set (set ws 0 low) 1 high)) ≡ 0 ∷ 1 ∷ []
+constants k [] low high el eh h = absurd (omega arith)
+constants k (a ∷ []) low high el eh h = absurd (omega arith)
+constants k (a ∷ b ∷ ws) low high el eh h = ap₂ (λ (x y : ℕ). x ∷ y ∷ []) el eh
 
 -- A run is the constants, then the rails, then the gates.
 pub run-parts : (n : ℕ) (gates : List ℕ) (h : Hold) (a : ℕ) →

@@ -1,107 +1,122 @@
 // The smallest code input that betrays a held line or pin, and the lowest output that shows it.
-ghost use Rattle.std.specs.Prelude.{◌≡◌, true, ℕ, ◌/◌, ◌≤◌, ◌<◌, length};
+ghost use Rattle.std.specs.Prelude.{◌≡◌, true, ℕ, ◌+◌, ◌/◌, ◌≤◌, ◌<◌, length};
 ghost use Rattle.diagram.specs.Diagram.{bit};
-ghost use Rattle.netlist.specs.Netlist.{pairs_of, net_of};
+ghost use Rattle.netlist.specs.Netlist.{gate_line, pairs_of, net_of};
 ghost use Rattle.wiring.specs.Questions.{are_pairs};
-ghost use Rattle.faults.specs.Betrayal.{some_no_code, lowest_no_code};
-ghost use Rattle.batches.specs.Inner.Batches.{half_of, hold_of, SearchReady, BuffersFit};
+ghost use Rattle.faults.specs.Betrayal.{no_code, some_no_code, lowest_no_code};
+ghost use Rattle.batches.specs.Inner.Batches.{firsts, seconds, SearchReady, BuffersFit};
 ghost use Rattle.bits.specs.Inner.Bits.{bit_of, bits_of};
 ghost use Rattle.search.specs.Inner.Found.{found_in};
 
-use crate::passes;
+use crate::passes::HeldBoard;
+use crate::{Board, passes};
+use batches::TwoBatches;
+use netlist::{Gate, Hold};
 
-// The smallest code input that betrays a held line or pin, or none.
-#[derive(Clone, Copy, Drop)]
-pub enum Found {
-    At(u32),
-    Nowhere,
-}
-
-// The inputs of a half at which some output's true and false line agree.
-fn agreeing(pairs: &[u8], half: usize, batches: &[u64]) -> u64
-    requires { (half ≤ 1) × (are_pairs (length batches.now / 2) pairs.now ≡ true) }
-    ensures { (k : ℕ) → k < 64 →
-        bit_of k result ≡ bit (some_no_code (pairs_of pairs.now) (bits_of k (half_of half batches.now))) }
+// The inputs at which some output's true and false line agree.
+fn agreeing(pairs: &[u8], batches: &[TwoBatches]) -> TwoBatches
+    requires { are_pairs (length batches.now) pairs.now ≡ true }
+    ensures first { (k : ℕ) → k < 64 →
+        bit_of k result.first ≡ bit (some_no_code (pairs_of pairs.now) (bits_of k (firsts batches.now))) }
+    ensures second { (k : ℕ) → k < 64 →
+        bit_of k result.second ≡ bit (some_no_code (pairs_of pairs.now) (bits_of k (seconds batches.now))) }
 {
-    let mut mask = 0;
+    let mut first = 0;
+    let mut second = 0;
     for j in 0..pairs.len() / 4 {
-        let at = 4 * j;
-        let on = batches::batch_at(pairs, at, half, batches);
-        let off = batches::batch_at(pairs, at + 2, half, batches);
-        mask = mask | ((on ^ off) ^ bits::ONES);
+        let pair = netlist::pair_at(pairs, j);
+        let on = batches[usize::from(pair.on)];
+        let off = batches[usize::from(pair.off)];
+        first |= (on.first ^ off.first) ^ bits::ONES;
+        second |= (on.second ^ off.second) ^ bits::ONES;
     }
-    mask
+    TwoBatches { first, second }
 }
 
-// The smallest code input that betrays a held line or pin, with room for the gates' sources and the lines' batches. Inputs past the last
-// repeat those before, so none of them is the smallest.
+// The smallest code input that betrays a held line or pin, with room for the gates and the lines' batches. Inputs past the last repeat
+// those before, so none of them is the smallest.
 fn search_in(
-    gates: &[u8],
-    pairs: &[u8],
-    n: usize,
-    line: usize,
-    value: u8,
-    sources: &mut [u16],
-    batches: &mut [u64],
-) -> Found
-    requires search_ready { SearchReady n gates.now pairs.now }
-    requires buffers_fit { BuffersFit n gates.now (length sources.old) (length batches.old) }
-    ensures { result ≡ found_in (net_of n gates.now pairs.now) (hold_of line value) }
+    board: Board,
+    hold: Hold,
+    taken: &mut [Gate],
+    batches: &mut [TwoBatches],
+) -> Option<u32>
+    requires ready { SearchReady board.contacts board.gates.now board.pairs.now }
+    requires fit { BuffersFit board.contacts board.gates.now (length taken.old) (length batches.old) }
+    ensures { result ≡ found_in (net_of board.entry.contacts board.entry.gates.now board.entry.pairs.now) hold }
 {
-    passes::take_sources(gates, 2 + 2 * n, line, value, sources);
-    let words = 2 * (2 + 2 * n + gates.len() / 5);
-    let end = 1usize << n;
-    let mut base = 0;
-    while base < end {
-        passes::work_batches(gates, sources, n, base, line, value, batches);
-        let mask = agreeing(pairs, 0, &batches[..words]);
-        if mask != 0 {
-            let input = base as u32 + bits::lowest_bit(mask);
-            return Found::At(input);
+    let first = 2 + 2 * board.contacts;
+    let count = board.gates.len() / 5;
+    passes::take_gates(board.gates, first, hold, taken);
+    let held = HeldBoard {
+        contacts: board.contacts,
+        gates: board.gates,
+        hold,
+        taken: &taken[..count],
+    };
+    for base in (0..1usize << board.contacts).step_by(128) {
+        held.work_batches(base, batches);
+        let masks = agreeing(board.pairs, &batches[..first + count]);
+        if masks.first != 0 {
+            return Some(base as u32 + bits::lowest_bit(masks.first));
         }
-        let next = base + 64;
-        let mask = agreeing(pairs, 1, &batches[..words]);
-        if mask != 0 {
-            let input = next as u32 + bits::lowest_bit(mask);
-            return Found::At(input);
+        if masks.second != 0 {
+            return Some(base as u32 + 64 + bits::lowest_bit(masks.second));
         }
-        base = next + 64;
     }
-    Found::Nowhere
+    None
+}
+
+// The same, with room for so many gates and lines.
+fn search_within<const GATES: usize, const LINES: usize>(board: Board, hold: Hold) -> Option<u32>
+    requires ready { SearchReady board.contacts board.gates.now board.pairs.now }
+    requires fit { BuffersFit board.contacts board.gates.now GATES LINES }
+    requires few { (GATES ≤ 10560) × (LINES ≤ 10586) }
+    ensures { result ≡ found_in (net_of board.entry.contacts board.entry.gates.now board.entry.pairs.now) hold }
+{
+    let blank = Gate {
+        kind: 0,
+        left: 0,
+        right: 0,
+    };
+    let none = TwoBatches {
+        first: 0,
+        second: 0,
+    };
+    let mut taken = [blank; GATES];
+    let mut batches = [none; LINES];
+    search_in(board, hold, &mut taken, &mut batches)
 }
 
 // The smallest code input that betrays a held line or pin. A small board has little room to clear.
-pub fn search(gates: &[u8], pairs: &[u8], n: usize, line: usize, value: u8) -> Found
-    requires { SearchReady n gates.now pairs.now }
-    ensures { result ≡ found_in (net_of n gates.now pairs.now) (hold_of line value) }
+pub fn search(board: Board, hold: Hold) -> Option<u32>
+    requires { SearchReady board.contacts board.gates.now board.pairs.now }
+    ensures { result ≡ found_in (net_of board.entry.contacts board.entry.gates.now board.entry.pairs.now) hold }
 {
-    if gates.len() <= 1150 {
-        let mut sources = [0u16; 460];
-        let mut batches = [0u64; 512];
-        return search_in(gates, pairs, n, line, value, &mut sources, &mut batches);
+    if board.gates.len() <= 1150 {
+        return search_within::<230, 256>(board, hold);
     }
-    if gates.len() <= 11390 {
-        let mut sources = [0u16; 4556];
-        let mut batches = [0u64; 4608];
-        return search_in(gates, pairs, n, line, value, &mut sources, &mut batches);
+    if board.gates.len() <= 11390 {
+        return search_within::<2278, 2304>(board, hold);
     }
-    let mut sources = [0u16; 21120];
-    let mut batches = [0u64; 21172];
-    search_in(gates, pairs, n, line, value, &mut sources, &mut batches)
+    search_within::<10560, 10586>(board, hold)
+}
+
+// Whether output j's pair shows no code.
+fn is_no_code(pairs: &[u8], lines: &[u8], j: usize) -> bool
+    requires { (are_pairs (length lines.now) pairs.now ≡ true) × (j < length pairs.now / 4) }
+    ensures { result ≡ no_code (pairs_of pairs.now) lines.now j }
+{
+    let pair = netlist::pair_at(pairs, j);
+    lines[usize::from(pair.on)] == lines[usize::from(pair.off)]
 }
 
 // The lowest output whose pair shows no code, which some output's does.
 pub fn lowest(pairs: &[u8], lines: &[u8]) -> u32
-    requires pairs_value { (are_pairs (length lines.now) pairs.now ≡ true) × (length pairs.now / 4 ≤ 8) }
-    requires lines_value { some_no_code (pairs_of pairs.now) lines.now ≡ true }
+    requires pairs { (are_pairs (length lines.now) pairs.now ≡ true) × (length pairs.now / 4 ≤ 8) }
+    requires lines { some_no_code (pairs_of pairs.now) lines.now ≡ true }
     ensures { result ≡ lowest_no_code (pairs_of pairs.now) lines.now }
 {
-    let mut j = 0;
-    loop {
-        let at = 4 * j;
-        if batches::value_at(pairs, at, lines) == batches::value_at(pairs, at + 2, lines) {
-            return j as u32;
-        }
-        j += 1;
-    }
+    let count = pairs.len() / 4;
+    (0..count).find(|j| is_no_code(pairs, lines, *j)).unwrap() as u32
 }

@@ -1,7 +1,9 @@
 // The search for the smallest code input that betrays a stuck line or pin, two batches of 64 inputs a pass.
 #![tactic(auto)]
 
+mod board;
 mod inputs;
 mod passes;
 
-pub use inputs::{Found, lowest, search};
+pub use board::Board;
+pub use inputs::{lowest, search};

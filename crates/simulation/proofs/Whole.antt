@@ -8,6 +8,7 @@ use borrow.Author.Tests.{leb-true, eq-eqb}
 use lib.Dec.{eqb, leb}
 use lib.ListN.{length, drop, take-append-drop}
 use lib.Seq.{take_all}
+use Rattle.fields.specs.Refusals.{first_no}
 use Rattle.fields.proofs.Refusals.{first-yes}
 use Rattle.files.specs.declared.room.Room.TheVariants.{Enough, Short}
 use Rattle.files.specs.Room.{over, room_of, room_number}
@@ -16,7 +17,7 @@ use Rattle.wiring.specs.Questions.{netlist_in}
 use Rattle.drive.specs.declared.Rails.TheVariants.{Driven}
 use Rattle.drive.specs.declared.Holds.TheVariants.{Ordered}
 use Rattle.drive.specs.declared.Place.TheVariants.{Within, Outside}
-use Rattle.drive.specs.Questions.{rails_of, order_of, place_of, place_number}
+use Rattle.drive.specs.Questions.{rails_of, rails_number, order_of, holds_number, place_of, place_number}
 use Rattle.simulation.specs.Run.{Driver, work_out, holding, drivers_of, values_of, shown_by}
 use Rattle.simulation.specs.Service.{Stepping, lines_before, stepped_values, stepped_or, step_refusal, step_of, ran_by, run_of}
 use Rattle.simulation.proofs.Answers.{driven, driven-zero, ordered-zero}
@@ -49,12 +50,18 @@ pub record Taken (net : Netlist) (rails holds : List ℕ) (place lines pairs : �
   pub room : line_count net ≤ lines
   pub paired : 2 * (length net.pairs + length net.lamp) ≤ pairs
 
-pub taken : (file rails holds : List ℕ) (place lines pairs : ℕ) → step_refusal file rails holds place lines pairs ≡ 0 →
-    Taken (netlist_in file) rails holds place lines pairs
-unfolding step_refusal
-taken file rails holds place lines pairs e =
-    let a = first-yes _ _ e in
-    let b = first-yes _ _ a.1 in
+pub taken-by : (net : Netlist) (rails holds : List ℕ) (place lines pairs : ℕ) →
+    first_no
+    (rails_number (rails_of net.contacts rails)
+    ∷ holds_number (order_of (gate_line net.contacts) (line_count net) holds)
+    ∷ place_number (place_of (line_count net) place)
+    ∷ room_number (room_of (line_count net) lines)
+    ∷ room_number (room_of (2 * (length net.pairs + length net.lamp)) pairs)
+    ∷ [])
+    ≡ 0 →
+    Taken net rails holds place lines pairs
+taken-by net rails holds place lines pairs e =
+    let b = first-yes _ _ e in
     let c = first-yes _ _ b.1 in
     let d = first-yes _ _ c.1 in
     let f = first-yes _ _ d.1 in
@@ -68,6 +75,11 @@ taken file rails holds place lines pairs e =
       room = room-yes _ _ f.0;
       paired = room-yes _ _ g.0;
     }
+
+pub taken : (file rails holds : List ℕ) (place lines pairs : ℕ) → step_refusal file rails holds place lines pairs ≡ 0 →
+    Taken (netlist_in file) rails holds place lines pairs
+unfolding step_refusal
+taken file rails holds place lines pairs e = taken-by (netlist_in file) rails holds place lines pairs (first-yes _ _ e).1
 
 -- A step's refusal is that of its questions; with none it leaves what it worked out, and with one what it was lent.
 module _ (file rails holds : List ℕ) (place count : ℕ) (lines pairs : List ℕ) where

@@ -6,17 +6,15 @@ use mathlib.Core.Path.{◌≡◌, refl, sym, ap, ◌∙◌}
 use mathlib.Core.Bool.{Bool, true, false, cond}
 use mathlib.Core.List.{List, [], ◌∷◌}
 use lib.ListN.{length, drop}
+use Rattle.std.specs.Prelude.{Option, Some, None}
+use Rattle.fields.specs.declared.Field.{Field}
 use Rattle.fields.specs.Fields.{Item, Fields, item_of, item_in, fields_from, fields_of}
 use Rattle.fields.proofs.Places.{item-at}
 use Rattle.fields.proofs.Steps.{from_start}
-use Rattle.files.specs.declared.header.Contacts.{Contacts}
-use Rattle.files.specs.declared.row.Taken.{Taken}
 use Rattle.files.specs.Header.{contacts_in, has_parts}
 use Rattle.files.specs.Inner.Row.{behind, Takes}
 use Rattle.files.proofs.Counts.{contacts-first}
-use Rattle.files.proofs.Taking.{field-taken, walked_on}
-use Rattle.table.specs.declared.fit.Outputs.{Outputs}
-use Rattle.table.specs.declared.fit.Outputs.TheVariants.{Listed, Unlisted}
+use Rattle.files.proofs.Taking.{went_on, field-taken, walked_on}
 use Rattle.table.specs.declared.fit.Levels.TheVariants.{Given, Lacking}
 use Rattle.table.specs.Table.{outputs_in, are_levels, levels_in}
 
@@ -26,7 +24,7 @@ pub skipped : (file : List ℕ) (k : ℕ) {at : ℕ} {m : List Item} → at ≡ 
 skipped file k start e = e ∙ ap (λ (fs : Fields). drop k fs.items) (from_start file start)
 
 -- Question 3 of a field.
-pub outputs-by : (i : Item) (b : Bool) → has_parts 2 1 1 8 i ≡ b → cond b (Listed (length i.value)) Unlisted ≡ outputs_in (i ∷ [])
+pub outputs-by : (i : Item) (b : Bool) → has_parts 2 1 1 8 i ≡ b → cond b (Some (length i.value)) None ≡ outputs_in (i ∷ [])
 unfolding outputs_in
 outputs-by i b t = rw (← t)
 
@@ -36,22 +34,35 @@ unfolding outputs_in
 first_alone [] = refl
 first_alone (i ∷ is) = refl
 
--- The first two fields of a file as a walk takes them.
-module _ (file : List ℕ) {a : Taken} (s : Takes file 0 a) where
-  pub contacts-taken : {r : Contacts} → r ≡ contacts_in (item_of file a.field ∷ []) → contacts_in (fields_of file).items ≡ r
-  contacts-taken e = sym (contacts-first (fields_of file).items e (field-taken file (fields_of file) 0 (from_start file refl) s))
+-- The first two fields of a file as a walk takes them, or finds that there are none.
+module _ (file : List ℕ) where
+  items-from : (fields_from file 0).items ≡ (fields_of file).items
+  items-from = ap (λ (fs : Fields). fs.items) (from_start file refl)
 
-  module _ {b : Taken} (t : Takes file a.past b) where
-    one : fields_from file a.past ≡ behind 1 (fields_of file)
-    one = walked_on file (fields_of file) 0 (from_start file refl) s
+  pub contacts-missing : Takes file 0 None → contacts_in (fields_of file).items ≡ None
+  unfolding contacts_in
+  contacts-missing e = ap contacts_in (sym items-from ∙ e)
 
-    pub outputs-taken : {r : Outputs} → r ≡ outputs_in (item_of file b.field ∷ []) → outputs_in (drop 1 (fields_of file).items) ≡ r
-    outputs-taken e =
-        let second = field-taken file (fields_of file) 1 one t ∙ sym (item-at (fields_of file).items 1) in
-        sym (e ∙ ap (λ (i : Item). outputs_in (i ∷ [])) second ∙ first_alone (drop 1 (fields_of file).items))
+  module _ (f : Field) (a : ℕ) (s : Takes file 0 (Some (f, a))) where
+    pub contacts-taken : {r : Option ℕ} → r ≡ contacts_in (item_of file f ∷ []) → contacts_in (fields_of file).items ≡ r
+    contacts-taken e =
+        sym (contacts-first (fields_of file).items e (field-taken file (fields_of file) 0 (from_start file refl) (went_on file 0 f a s)))
 
-    pub levels-left : (fields_from file b.past).items ≡ drop 2 (fields_of file).items
-    levels-left = ap (λ (fs : Fields). fs.items) (walked_on file (fields_of file) 1 one t)
+    one : fields_from file a ≡ behind 1 (fields_of file)
+    one = walked_on file (fields_of file) 0 (from_start file refl) (went_on file 0 f a s)
+
+    pub outputs-missing : Takes file a None → outputs_in (drop 1 (fields_of file).items) ≡ None
+    unfolding outputs_in
+    outputs-missing e = ap outputs_in (sym (ap (λ (fs : Fields). fs.items) one) ∙ e)
+
+    module _ (g : Field) (b : ℕ) (t : Takes file a (Some (g, b))) where
+      pub outputs-taken : {r : Option ℕ} → r ≡ outputs_in (item_of file g ∷ []) → outputs_in (drop 1 (fields_of file).items) ≡ r
+      outputs-taken e =
+          let second = field-taken file (fields_of file) 1 one (went_on file a g b t) ∙ sym (item-at (fields_of file).items 1) in
+          sym (e ∙ ap (λ (i : Item). outputs_in (i ∷ [])) second ∙ first_alone (drop 1 (fields_of file).items))
+
+      pub levels-left : (fields_from file b).items ≡ drop 2 (fields_of file).items
+      levels-left = ap (λ (fs : Fields). fs.items) (walked_on file (fields_of file) 1 one (went_on file a g b t))
 
 left : (n k : ℕ) → k < n → n - k ≡ suc (n - (k + 1))
 left n k h = omega arith

@@ -5,12 +5,12 @@ use mathlib.Core.Path.{◌≡◌, refl, ap, ap₂, ◌∙◌}
 use mathlib.Core.Bool.{Bool, true, false, ◌&&◌, cond}
 use mathlib.Core.List.{List, [], ◌∷◌}
 use lib.ListN.{length, get_or, drop}
+use Rattle.std.specs.Prelude.{Some, None}
 use Rattle.fields.specs.Fields.{Item, value_in}
 use Rattle.fields.proofs.Bounded.{and_left, and_right}
 use Rattle.files.specs.Header.{has_parts}
 use Rattle.files.proofs.Heads.{field}
 use Rattle.files.proofs.WholeParts.{HasParts, has_parts_lem, whole_parts}
-use Rattle.table.specs.declared.fit.Outputs.TheVariants.{Listed, Unlisted}
 use Rattle.table.specs.Table.{outputs_in, are_levels}
 
 -- Fields that begin with the output list.
@@ -21,12 +21,12 @@ pub record Lists (l : List Item) (m : ℕ) : Type 0 where
   pub low : 1 ≤ m
   pub high : m ≤ 8
 
-pub lists : (l : List Item) (m : ℕ) → outputs_in l ≡ Listed m → Lists l m
+pub lists : (l : List Item) (m : ℕ) → outputs_in l ≡ Some m → Lists l m
 unfolding outputs_in
 lists [] m e = absurd (let z : ◌≡◌ {A = ℕ} 0 1 = cc in omega arith)
 lists (i ∷ is) m e = go (has_parts 2 1 1 8 i) refl e
   where
-    go : (b : Bool) → has_parts 2 1 1 8 i ≡ b → cond b (Listed (length i.value)) Unlisted ≡ Listed m → Lists (i ∷ is) m
+    go : (b : Bool) → has_parts 2 1 1 8 i ≡ b → cond b (Some (length i.value)) None ≡ Some m → Lists (i ∷ is) m
     go true t e =
         let q : length i.value ≡ m = cc in
         let (f, p) = has_parts_lem 2 1 1 8 i t in

@@ -10,7 +10,6 @@ pub mod Tables
 pub mod Encode
 pub mod SameFile
 pub mod Promises
-pub mod Lent
 pub mod Written
 pub mod ReadsBack
 pub mod Tidy

@@ -5,16 +5,13 @@ use mathlib.Core.Path.{◌≡◌, refl, sym, ap, ◌∙◌}
 use mathlib.Core.Bool.{Bool, true, false, cond}
 use mathlib.Core.List.{List, [], ◌∷◌}
 use lib.ListN.{length, drop}
+use Rattle.std.specs.Prelude.{Option, Some, None}
 use Rattle.fields.specs.declared.Framing.{Framing}
 use Rattle.fields.specs.declared.Framing.TheVariants.{Whole, Broken}
 use Rattle.fields.specs.Fields.{Item, fields_of}
 use Rattle.fields.specs.Refusals.{framing_number, first_no}
-use Rattle.files.specs.declared.header.Contacts.{Contacts}
-use Rattle.files.specs.declared.header.Contacts.TheVariants.{Counted, Uncounted}
 use Rattle.files.specs.Header.{contacts_in, contacts_number, contacts_of}
 use Rattle.diagram.specs.declared.Diagram.{Diagram}
-use Rattle.table.specs.declared.fit.Outputs.{Outputs}
-use Rattle.table.specs.declared.fit.Outputs.TheVariants.{Listed, Unlisted}
 use Rattle.table.specs.declared.fit.Levels.TheVariants.{Given, Lacking}
 use Rattle.diagram.specs.Questions.{Sized}
 use Rattle.table.specs.Table.{outputs_in, outputs_number, are_levels, levels_number, diagram_of, fields_refusal}
@@ -26,8 +23,8 @@ use Rattle.table.proofs.Heads.{lists, value-one, level-at}
 
 pub record Shaped (file : List ℕ) (d : Diagram) : Type 0 where
   pub framing : (fields_of file).framing ≡ Whole
-  pub contacts : contacts_in (fields_of file).items ≡ Counted d.contacts
-  pub outputs : outputs_in (drop 1 (fields_of file).items) ≡ Listed d.outputs
+  pub contacts : contacts_in (fields_of file).items ≡ Some d.contacts
+  pub outputs : outputs_in (drop 1 (fields_of file).items) ≡ Some d.outputs
   pub levels : are_levels d.contacts (drop 2 (fields_of file).items) ≡ true
 
 pub shaped : (file : List ℕ) → fields_refusal file ≡ 0 → Shaped file (diagram_of (fields_of file).items)
@@ -40,19 +37,19 @@ shaped file z = go (fields_of file).framing (contacts_in is) (outputs_in (drop 1
     n : ℕ
     n = contacts_of is
 
-    go : (a : Framing) (b : Contacts) (c : Outputs) (e : Bool) →
+    go : (a : Framing) (b c : Option ℕ) (e : Bool) →
         (fields_of file).framing ≡ a → contacts_in is ≡ b → outputs_in (drop 1 is) ≡ c → are_levels n (drop 2 is) ≡ e →
         first_no (framing_number a ∷ contacts_number b ∷ outputs_number c ∷ levels_number (cond e Given Lacking) ∷ []) ≡ 0 →
         Shaped file (diagram_of is)
     go Broken b c e p q r s z = absurd (omega arith)
-    go Whole Uncounted c e p q r s z = absurd (omega arith)
-    go Whole (Counted k) Unlisted e p q r s z = absurd (omega arith)
-    go Whole (Counted k) (Listed m) false p q r s z = absurd (omega arith)
-    go Whole (Counted k) (Listed m) true p q r s z =
+    go Whole None c e p q r s z = absurd (omega arith)
+    go Whole (Some k) None e p q r s z = absurd (omega arith)
+    go Whole (Some k) (Some m) false p q r s z = absurd (omega arith)
+    go Whole (Some k) (Some m) true p q r s z =
         record {
           framing = p;
-          contacts = q ∙ ap Counted (sym (ap contacts_of (counted is k q).split));
-          outputs = r ∙ ap Listed (sym (lists (drop 1 is) m r).count ∙ ap length (value-one is));
+          contacts = q ∙ ap Some (sym (ap contacts_of (counted is k q).split));
+          outputs = r ∙ ap Some (sym (lists (drop 1 is) m r).count ∙ ap length (value-one is));
           levels = s;
         }
 

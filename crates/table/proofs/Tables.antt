@@ -1,102 +1,73 @@
 -- What reading a table gives, by the refusals of its fields and of its diagram, what question 6's search hands back, and what a reading
 -- off gives.
 use Prim.Native.Nat.{ℕ, zero, suc, ◌^◌, ◌≤◌, ◌<◌}
-use mathlib.Core.Path.{◌≡◌, refl, sym, ap, ap₂, ◌∙◌}
+use mathlib.Core.Path.{◌≡◌, refl, sym, ap, ◌∙◌}
 use mathlib.Core.List.{List, [], ◌∷◌}
 use borrow.Author.Tests.{lt-ltb, le-ltb}
 use mathlib.Core.Bool.{cond}
 use lib.Dec.{ltb}
-use Rattle.table.specs.declared.reading.Table.{Table}
+use Rattle.std.specs.Prelude.{Ok, Err, None}
 use Rattle.fields.specs.Refusals.{first_no}
 use Rattle.fields.proofs.Refusals.{first-no}
+use Rattle.files.specs.declared.refusal.Refusal.{Refusal}
+use Rattle.files.specs.declared.refusal.Refusal.TheVariants.{Input}
+use Rattle.files.specs.Refusals.{number_of}
+use Rattle.files.proofs.Refusals.{above_zero, not_zero}
 use Rattle.diagram.specs.declared.Diagram.{Diagram}
 use Rattle.diagram.specs.Diagram.{input_of, word_at}
-use Rattle.twins.specs.declared.Twins.TheVariants.{Absent}
+use Rattle.diagram.specs.Inner.Fit.{Fit}
+use Rattle.diagram.proofs.Asked.{fit}
 use Rattle.twins.specs.Twins.{comparison_of}
-use Rattle.table.specs.Table.{diagram_in, fields_refusal, diagram_refusal, table_refusal, read_refusal, reading_or, reading_of}
-use Rattle.table.specs.Inner.Read.{refused_table, table_or, table_of, comparison_or, comparison_in}
-use Rattle.table.proofs.Accepted.{AcceptedTable, accepted}
+use Rattle.table.specs.Table.{diagram_in, fields_refusal, diagram_refusal, table_refusal, read_refusal, reading, reading_or, reading_of}
+use Rattle.table.specs.Inner.Read.{comparison_or, comparison_in}
+use Rattle.table.proofs.Shaped.{shaped, sized}
 
-table-or : (k : ℕ) (d : Diagram) → (k ≡ 0 → ⊥) → refused_table k ≡ table_or k d
-table-or zero d h = absurd (h refl)
-table-or (suc k) d h = refl
+comparison-or : (r : Refusal) (d : Diagram) → record { twins = None; compared = 0 } ≡ comparison_or (number_of r) d
+comparison-or r d = rw (above_zero r).1
 
-refusal-or : (k : ℕ) (d : Diagram) → (table_or k d).refusal ≡ k
-refusal-or zero d = refl
-refusal-or (suc k) d = refl
+reading-or : (r : Refusal) (d : Diagram) (a : ℕ) → reading (Err r) ≡ reading_or (number_of r) d a
+reading-or r d a = let (k, e) = above_zero r in rw e
 
-reading-or : (k : ℕ) (d : Diagram) (a : ℕ) → (k ≡ 0 → ⊥) → record { refusal = k; word = 0 } ≡ reading_or k d a
-reading-or zero d a h = absurd (h refl)
-reading-or (suc k) d a h = refl
-
-comparison-or : (k : ℕ) (d : Diagram) → (k ≡ 0 → ⊥) → record { twins = Absent; compared = 0 } ≡ comparison_or k d
-comparison-or zero d h = absurd (h refl)
-comparison-or (suc k) d h = refl
+alone : (k : ℕ) → k ≡ first_no (k ∷ [])
+unfolding first_no
+alone zero = refl
+alone (suc k) = refl
 
 module _ (file : List ℕ) where
-  refusal-by : (j k : ℕ) → j ≡ fields_refusal file → k ≡ diagram_refusal (diagram_in file) → first_no (j ∷ k ∷ []) ≡ table_refusal file
+  -- The diagram of a file that passes questions 1 to 4 can be asked.
+  pub fits : fields_refusal file ≡ 0 → Fit (diagram_in file) × ((diagram_in file).outputs ≤ 8)
+  fits z = let limits = sized file (shaped file z) in (fit limits, limits.outputs.1)
+
+  -- The first refusal is the table's; with none, the diagram is the file's.
+  pub refused-fields : (r : Refusal) → number_of r ≡ fields_refusal file → number_of r ≡ table_refusal file
   unfolding table_refusal
-  refusal-by j k e f = ap₂ (λ (j k : ℕ). first_no (j ∷ k ∷ [])) e f
+  refused-fields r e = sym (first-no (number_of r) _ (not_zero r)) ∙ ap (λ (k : ℕ). first_no (k ∷ diagram_refusal (diagram_in file) ∷ [])) e
 
-  pub table-by-fields : (k : ℕ) → k ≡ fields_refusal file → (k ≡ 0 → ⊥) → refused_table k ≡ table_of file
-  unfolding table_of
-  table-by-fields k e h =
-      table-or k (diagram_in file) h ∙ ap (λ (n : ℕ). table_or n (diagram_in file)) (sym (first-no k _ h) ∙ refusal-by k _ e refl)
+  pub refused-diagram : (k : ℕ) → 0 ≡ fields_refusal file → k ≡ diagram_refusal (diagram_in file) → k ≡ table_refusal file
+  unfolding table_refusal first_no
+  refused-diagram k z e = rw (← z, ← e) (alone k)
 
-  pub table-by-diagram : (k : ℕ) → 0 ≡ fields_refusal file → k ≡ diagram_refusal (diagram_in file) → (k ≡ 0 → ⊥) →
-      refused_table k ≡ table_of file
-  unfolding table_of first_no
-  table-by-diagram k z e h =
-      table-or k (diagram_in file) h ∙ ap (λ (n : ℕ). table_or n (diagram_in file)) (sym (first-no k [] h) ∙ refusal-by 0 k z e)
-
-  pub table-by-none : 0 ≡ fields_refusal file → 0 ≡ diagram_refusal (diagram_in file) → table_or 0 (diagram_in file) ≡ table_of file
-  unfolding table_of first_no
-  table-by-none z e = ap (λ (n : ℕ). table_or n (diagram_in file)) (refusal-by 0 0 z e)
-
-  pub comparison-none : {k : ℕ} → k ≡ fields_refusal file → (k ≡ 0 → ⊥) → record { twins = Absent; compared = 0 } ≡ comparison_in file
+  pub comparison-none : (r : Refusal) → number_of r ≡ fields_refusal file → record { twins = None; compared = 0 } ≡ comparison_in file
   unfolding comparison_in
-  comparison-none {k} e h = comparison-or k (diagram_in file) h ∙ ap (λ (n : ℕ). comparison_or n (diagram_in file)) e
+  comparison-none r e = comparison-or r (diagram_in file) ∙ ap (λ (n : ℕ). comparison_or n (diagram_in file)) e
 
-  pub comparison-made : fields_refusal file ≡ 0 → comparison_of (diagram_in file) ≡ comparison_in file
+  pub comparison-made : 0 ≡ fields_refusal file → comparison_of (diagram_in file) ≡ comparison_in file
   unfolding comparison_in
-  comparison-made z = rw z
+  comparison-made z = rw (← z)
 
-  pub table-refusal : (table_of file).refusal ≡ table_refusal file
-  unfolding table_of
-  table-refusal = refusal-or (table_refusal file) (diagram_in file)
+  module _ (a : ℕ) where
+    pub reading-refused : (r : Refusal) → number_of r ≡ table_refusal file → reading (Err r) ≡ reading_of file a
+    unfolding reading_of read_refusal
+    reading-refused r e =
+        reading-or r (diagram_in file) a
+        ∙ ap (λ (k : ℕ). reading_or k (diagram_in file) a)
+        (sym (first-no (number_of r) _ (not_zero r)) ∙ ap (λ (k : ℕ). first_no (k ∷ cond (ltb a (2 ^ (diagram_in file).contacts)) 0 10 ∷ [])) e)
 
-  -- A table that is not refused is accepted, and its diagram is that of the fields.
-  pub table-accepted : (table_of file).refusal ≡ 0 → AcceptedTable file
-  table-accepted e = accepted file (sym table-refusal ∙ e)
+    module _ {d : Diagram} (z : 0 ≡ table_refusal file) (e : d ≡ diagram_in file) where
+      pub reading-outside : 2 ^ d.contacts ≤ a → reading (Err Input) ≡ reading_of file a
+      unfolding reading_of read_refusal first_no
+      reading-outside h = rw (← z, le-ltb _ _ (rw e at h))
 
-  pub table-diagram : (table_of file).refusal ≡ 0 → (table_of file).diagram ≡ diagram_in file
-  unfolding table_of
-  table-diagram e = ap (λ (k : ℕ). (table_or k (diagram_in file)).diagram) (sym table-refusal ∙ e)
-
--- A reading, by what reading the table gives.
-module _ (file : List ℕ) {t : Table} (e : t ≡ table_of file) (a : ℕ) where
-  refusal_is : t.refusal ≡ table_refusal file
-  refusal_is = ap (λ (t : Table). t.refusal) e ∙ table-refusal file
-
-  pub reading-refused : (t.refusal ≡ 0 → ⊥) → record { refusal = t.refusal; word = 0 } ≡ reading_of file a
-  unfolding reading_of read_refusal
-  reading-refused h =
-      reading-or t.refusal (diagram_in file) a h
-      ∙ ap (λ (k : ℕ). reading_or k (diagram_in file) a)
-      (sym (ap (λ (k : ℕ). first_no (k ∷ cond (ltb a (2 ^ (diagram_in file).contacts)) 0 10 ∷ [])) (sym refusal_is) ∙ first-no t.refusal _ h))
-
-  module _ (z : t.refusal ≡ 0) where
-    yes! : table_refusal file ≡ 0
-    yes! = sym refusal_is ∙ z
-
-    its-diagram : t.diagram ≡ diagram_in file
-    its-diagram = ap (λ (t : Table). t.diagram) e ∙ table-diagram file (sym (ap (λ (t : Table). t.refusal) e) ∙ z)
-
-    pub reading-outside : 2 ^ t.diagram.contacts ≤ a → record { refusal = 10; word = 0 } ≡ reading_of file a
-    unfolding reading_of read_refusal first_no
-    reading-outside h = rw (yes!, le-ltb _ _ (rw its-diagram at h))
-
-    pub reading-inside : a < 2 ^ t.diagram.contacts → {w : ℕ} → w ≡ word_at t.diagram (input_of a) t.diagram.outputs →
-        record { refusal = 0; word = w } ≡ reading_of file a
-    unfolding reading_of read_refusal first_no
-    reading-inside h f = rw (yes!, lt-ltb _ _ (rw its-diagram at h), f, its-diagram)
+      pub reading-inside : a < 2 ^ d.contacts → {w : ℕ} → w ≡ word_at d (input_of a) d.outputs → reading (Ok w) ≡ reading_of file a
+      unfolding reading_of read_refusal first_no
+      reading-inside h f = rw (← z, lt-ltb _ _ (rw e at h), f, e)

@@ -6,6 +6,7 @@ use mathlib.Core.Bool.{Bool, cond}
 use mathlib.Core.List.{List, [], ◌∷◌}
 use borrow.Author.Tests.{le-leb}
 use lib.ListN.{length, get_or, drop}
+use Rattle.std.specs.Prelude.{Some, None}
 use Rattle.fields.specs.declared.Framing.TheVariants.{Whole}
 use Rattle.fields.specs.Fields.{Bytes, Item, Fields, fields_of, encoded}
 use Rattle.fields.specs.Bounded.{listed}
@@ -14,13 +15,11 @@ use Rattle.fields.proofs.Listed.{length-listed, listed_at}
 use Rattle.fields.proofs.Every.{every-listed}
 use Rattle.fields.proofs.Notes.{Plain, of-encoded}
 use Rattle.fields.proofs.Small.{Small, none, first, bytes, small, field-small, fields-small}
-use Rattle.files.specs.declared.header.Contacts.TheVariants.{Counted}
 use Rattle.files.specs.Header.{contacts_in, contacts_of}
 use Rattle.files.proofs.Heads.{field}
 use Rattle.files.proofs.WholeParts.{whole_parts}
 use Rattle.diagram.specs.Diagram.{width, edge_at, root}
 use Rattle.diagram.proofs.Asked.{width_is}
-use Rattle.table.specs.declared.fit.Outputs.TheVariants.{Listed, Unlisted}
 use Rattle.table.specs.declared.fit.Levels.TheVariants.{Given, Lacking}
 use Rattle.table.specs.Promises.{TableWithoutNotes}
 use Rattle.table.specs.Encode.{Contents, level_item, items_of, bytes_of}
@@ -72,18 +71,18 @@ module _ (c : Contents) (s : Limits c) where
       ∙ ap (λ (v : List ℕ). get_or v k 0) (level-back c l h) ∙ listed_at (c.edge l) (2 * c.width l) k 0 g
 
   -- Questions 1 to 4.
-  contacts-given : contacts_in (items_of c) ≡ Counted c.contacts
+  contacts-given : contacts_in (items_of c) ≡ Some c.contacts
   unfolding contacts_in
   contacts-given = simp (le-leb _ _ s.contacts.0, le-leb _ _ s.contacts.1)
 
-  outputs-given : outputs_in (drop 1 (items_of c)) ≡ Listed c.outputs
+  outputs-given : outputs_in (drop 1 (items_of c)) ≡ Some c.outputs
   unfolding outputs_in
   outputs-given =
       let v = listed c.root c.outputs 0 in
       let n = length-listed c.root c.outputs 0 in
       let m = s.outputs in
-      ap (λ (b : Bool). cond b (Listed (length v)) Unlisted) (whole_parts 2 1 1 8 v (omega arith) (omega arith) (omega arith))
-      ∙ ap Listed n
+      ap (λ (b : Bool). cond b (Some (length v)) None) (whole_parts 2 1 1 8 v (omega arith) (omega arith) (omega arith))
+      ∙ ap Some n
 
   levels-given : levels_in c.contacts (drop 2 (items_of c)) ≡ Given
   levels-given =
@@ -99,7 +98,7 @@ module _ (c : Contents) (s : Limits c) where
   pub fields-pass : fields_refusal (bytes_of c) ≡ 0
   unfolding first_no
   fields-pass =
-      sym (fields-by (bytes_of c) Whole (Counted c.contacts) (Listed c.outputs) Given
+      sym (fields-by (bytes_of c) Whole (Some c.contacts) (Some c.outputs) Given
       (ap (λ (fs : Fields). fs.framing) (fields_back c))
       (ap (λ (fs : Fields). contacts_in fs.items) (fields_back c) ∙ contacts-given)
       (ap (λ (fs : Fields). outputs_in (drop 1 fs.items)) (fields_back c) ∙ outputs-given)

@@ -1,29 +1,28 @@
 -- A table file: questions 3 and 4 about its fields, the diagram that it holds, and the first question that it fails.
-use Rattle.std.specs.Prelude.{ℕ, zero, suc, ◌/◌, ◌^◌, Bool, true, false, ◌&&◌, cond, ltb, length, drop}
+use Rattle.std.specs.Prelude.{ℕ, zero, suc, ◌/◌, ◌^◌, Bool, true, false, ◌&&◌, cond, Result, Ok, Err, Option, Some, None, ltb, length, drop}
 use mathlib.Core.List.{List, [], ◌∷◌, map, flat_map}
 use Rattle.fields.specs.Fields.{Item, fields_of, value_in}
 use Rattle.fields.specs.Refusals.{framing_number, first_no}
+use Rattle.files.specs.declared.refusal.Refusal.{Refusal}
+use Rattle.files.specs.Refusals.{number_of}
 use Rattle.files.specs.Header.{contacts_in, contacts_number, contacts_of, has_parts}
 use Rattle.diagram.specs.declared.Diagram.{Diagram}
-use Rattle.table.specs.declared.fit.Outputs.{Outputs}
-use Rattle.table.specs.declared.fit.Outputs.TheVariants.{Listed, Unlisted}
 use Rattle.table.specs.declared.fit.Levels.{Levels}
 use Rattle.table.specs.declared.fit.Levels.TheVariants.{Given, Lacking}
 use Rattle.diagram.specs.declared.sound.Range.{Range}
 use Rattle.diagram.specs.declared.sound.Range.TheVariants.{Within, Outside}
 use Rattle.diagram.specs.declared.sound.Numbering.{Numbering}
 use Rattle.diagram.specs.declared.sound.Numbering.TheVariants.{InTurn, OutOfTurn}
-use Rattle.twins.specs.declared.Twins.{Twins}
-use Rattle.twins.specs.declared.Twins.TheVariants.{Absent, Present}
+use Rattle.twins.specs.declared.Pair.{Pair}
 use Rattle.table.specs.declared.reading.Reading.{Reading}
 use Rattle.diagram.specs.Diagram.{input_of, word_at}
 use Rattle.diagram.specs.Questions.{range_of, numbering_of}
 use Rattle.twins.specs.Twins.{twins_of}
 
 -- The number of each answer: 0 for yes, and the question's for no.
-abbrev pub outputs_number : Outputs → ℕ
-outputs_number (Listed m) = 0
-outputs_number Unlisted = 3
+abbrev pub outputs_number : Option ℕ → ℕ
+outputs_number (Some m) = 0
+outputs_number None = 3
 
 abbrev pub levels_number : Levels → ℕ
 levels_number Given = 0
@@ -33,18 +32,18 @@ abbrev pub range_number : Range → ℕ
 range_number Within = 0
 range_number Outside = 5
 
-abbrev pub twins_number : Twins → ℕ
-twins_number Absent = 0
-twins_number (Present p) = 6
+abbrev pub twins_number : Option Pair → ℕ
+twins_number None = 0
+twins_number (Some p) = 6
 
 abbrev pub numbering_number : Numbering → ℕ
 numbering_number InTurn = 0
 numbering_number OutOfTurn = 7
 
 -- 3. Is the second tag 2, length 1 to 8? (Asked of the fields from the second on.)
-unfoldable pub outputs_in : List Item → Outputs
-outputs_in [] = Unlisted
-outputs_in (i ∷ is) = cond (has_parts 2 1 1 8 i) (Listed (length i.value)) Unlisted
+unfoldable pub outputs_in : List Item → Option ℕ
+outputs_in [] = None
+outputs_in (i ∷ is) = cond (has_parts 2 1 1 8 i) (Some (length i.value)) None
 
 unfoldable pub are_levels : ℕ → List Item → Bool
 are_levels zero [] = true
@@ -110,6 +109,11 @@ table_refusal file = first_no (fields_refusal file ∷ diagram_refusal (diagram_
 -- The table's questions, then 10. Is a below 2^n?
 unfoldable pub read_refusal : List ℕ → ℕ → ℕ
 read_refusal file a = first_no (table_refusal file ∷ cond (ltb a (2 ^ (diagram_in file).contacts)) 0 10 ∷ [])
+
+-- A word or a refusal, as C gets it: the refusal's number with the word zero.
+abbrev pub reading : Result ℕ Refusal → Reading
+reading (Ok w) = record { refusal = 0; word = w }
+reading (Err r) = record { refusal = number_of r; word = 0 }
 
 -- Read-off returns the word of the outputs at input a, or the refusal with the word zero.
 abbrev pub reading_or : ℕ → Diagram → ℕ → Reading

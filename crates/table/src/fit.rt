@@ -6,13 +6,6 @@ ghost use Rattle.table.specs.Table.{outputs_in, levels_in};
 
 use fields::{Cursor, Field, Step};
 
-// Question 3's answer: the count of outputs.
-#[derive(Clone, Copy, Drop)]
-pub enum Outputs {
-    Listed(usize),
-    Unlisted,
-}
-
 // Question 4's answer.
 #[derive(Clone, Copy, Drop)]
 pub enum Levels {
@@ -20,21 +13,21 @@ pub enum Levels {
     Lacking,
 }
 
-// Question 3 of a file's second field: is it tag 2, length 1 to 8?
-pub fn count_outputs(file: &[u8], field: Field) -> Outputs
+// Question 3 of a file's second field, which gives the count of outputs: is it tag 2, length 1 to 8?
+pub fn count_outputs(file: &[u8], field: Field) -> Option<usize>
     ensures { result ≡ outputs_in (item_of file.now field ∷ []) }
 {
     if !files::has_parts(file, field, 2, 1, 1, 8) {
-        return Outputs::Unlisted;
+        return None;
     }
-    Outputs::Listed(fields::value(file, field).len())
+    Some(fields::value(file, field).len())
 }
 
 // Question 4 of the fields from a place on: are they exactly n fields of tag 3 and no others, each of even length 2 to 16?
 pub fn ask_levels(file: &[u8], at: usize, n: usize) -> Levels
     ensures { result ≡ levels_in n (items_from file.now at) }
 {
-    let mut cursor = Cursor { at: at };
+    let mut cursor = Cursor { at };
     for _ in 0..n {
         let Step::Next(field, moved) = cursor.next(file) else {
             return Levels::Lacking;

@@ -5,5 +5,5 @@ mod decode;
 mod fit;
 mod reading;
 
-pub use fit::{Levels, Outputs};
-pub use reading::{Reading, Table, find_twins, read, read_off};
+pub use fit::Levels;
+pub use reading::{Reading, find_twins, read, read_off};

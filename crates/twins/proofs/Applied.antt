@@ -7,7 +7,7 @@ use Rattle.fields.specs.Bounded.{all, any, least_from}
 use Rattle.diagram.specs.declared.Diagram.{Diagram}
 use Rattle.diagram.specs.Diagram.{width, edge_at}
 use Rattle.diagram.specs.Questions.{distinct}
-use Rattle.twins.specs.declared.Twins.TheVariants.{Absent, Present}
+use Rattle.std.specs.Prelude.{Some, None}
 use Rattle.twins.specs.Twins.{first_pair, total, comparison_of}
 
 -- Three levels of two, four and three nodes, with these edges.
@@ -25,13 +25,13 @@ levels first second third =
 -- and 1, 0 and 2, 1 and 2.
 pub several :
     comparison_of (levels (0 ∷ 1 ∷ 1 ∷ 0 ∷ []) (0 ∷ 1 ∷ 2 ∷ 2 ∷ 2 ∷ 2 ∷ 0 ∷ 1 ∷ []) (0 ∷ 1 ∷ 0 ∷ 1 ∷ 0 ∷ 1 ∷ []))
-    ≡ record { twins = Present (record { level = 1; later = 2; earlier = 1 }); compared = 4 }
+    ≡ record { twins = Some (record { level = 1; later = 2; earlier = 1 }); compared = 4 }
 unfolding all any least_from width edge_at distinct first_pair total
 several = refl
 
 -- No two nodes of a level are alike: 1, 6 and 3 pairs.
 pub none :
     comparison_of (levels (0 ∷ 1 ∷ 1 ∷ 0 ∷ []) (0 ∷ 1 ∷ 2 ∷ 2 ∷ 2 ∷ 1 ∷ 0 ∷ 2 ∷ []) (0 ∷ 1 ∷ 1 ∷ 1 ∷ 0 ∷ 0 ∷ []))
-    ≡ record { twins = Absent; compared = 10 }
+    ≡ record { twins = None; compared = 10 }
 unfolding all any least_from width edge_at distinct first_pair total
 none = refl

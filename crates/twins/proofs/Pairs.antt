@@ -1,29 +1,19 @@
 -- The search behind question 6: what is known where so many levels and nodes are passed, and what its end says.
-use Prim.Native.Nat.{ℕ, zero, suc, ◌+◌, ◌*◌, ◌≤◌, ◌<◌}
-use native.Mathlib.Nat.{eq-or-lt_of_le, le_of_suc-le-suc, not-suc-le-zero, add-zero}
-use native.Mathlib.Numerals.{add-one}
+use Prim.Native.Nat.{ℕ, zero, suc, ◌+◌, ◌<◌}
+use native.Mathlib.Nat.{not-suc-le-zero, add-zero}
 use native.Mathlib.Omega.{arith}
+use borrow.Author.Count.{below_more}
 use mathlib.Core.Path.{◌≡◌, refl, sym, ap, ap₂, ◌∙◌}
 use mathlib.Core.Bool.{Bool, true, false, not, ◌&&◌, ◌||◌}
-use mathlib.Core.Logic.{⊎_elim}
-use mathlib.Core.List.{List}
-use lib.ListN.{get_or}
 use Rattle.fields.specs.Bounded.{all, any, least}
 use Rattle.fields.proofs.Bounded.{any_at, any-not}
-use Rattle.fields.proofs.Least.{First, least-is, least-below, least-past}
+use Rattle.fields.proofs.Least.{First, least-is, least-below}
 use Rattle.diagram.specs.declared.Diagram.{Diagram}
-use Rattle.diagram.specs.Diagram.{width, edge_at}
-use Rattle.diagram.specs.Inner.Bytes.{is_like}
-use Rattle.diagram.specs.Inner.Lent.{HasLevels}
+use Rattle.diagram.specs.Diagram.{width}
 use Rattle.diagram.specs.Questions.{alike, distinct}
-use Rattle.diagram.proofs.Asked.{width_is}
-use Rattle.twins.specs.declared.Twins.TheVariants.{Absent, Present}
+use Rattle.std.specs.Prelude.{Some, None}
 use Rattle.twins.specs.Twins.{repeats, first_pair, total, pairs_among, pairs_before, comparison_of}
 use Rattle.twins.proofs.Totals.{total-more}
-
--- Where none of the numbers below k passes, nor k, none below k + 1 does.
-pub none_more : {p : ℕ → Bool} (k : ℕ) → ((i : ℕ) → i < k → p i ≡ false) → p k ≡ false → (i : ℕ) → i < k + 1 → p i ≡ false
-none_more {p} k h e i l = ⊎_elim (λ q. ap p q ∙ e) (h i) (eq-or-lt_of_le (le_of_suc-le-suc (rw (add-one k) at l)))
 
 -- Every number fails exactly if none passes.
 not-or : (a b : Bool) → (not a && not b) ≡ not (a || b)
@@ -61,7 +51,7 @@ module _ (d : Diagram) where
     passed-node e =
         record {
           levels = s.levels;
-          nodes = none_more v s.nodes e;
+          nodes = below_more _ v s.nodes e;
           count = omega (arith, s.count, total-more v (λ i. i));
         }
 
@@ -69,16 +59,17 @@ module _ (d : Diagram) where
     unfolding total
     passed-level w =
         record {
-          levels = none_more l s.levels (any-not _ (width d l) (rw w at s.nodes));
+          levels = below_more _ l s.levels (any-not _ (width d l) (rw w at s.nodes));
           nodes = λ i h. absurd (not-suc-le-zero h);
           count = s.count ∙ rw w (sym (total-more l (λ i. pairs_among (width d i))) ∙ sym (add-zero _));
         }
 
     -- The end where node v is like node u, and the end past the last level.
-    pub passed-found : l < d.contacts → v < width d l → {u : ℕ} → First (λ u. alike d l u v) v u →
-        record { twins = Present (record { level = l; later = v; earlier = u }); compared = c + u + 1 } ≡ comparison_of d
+    pub passed-found : l < d.contacts → v < width d l → {u : ℕ} → u < v → u ≡ least v (λ u. alike d l u v) →
+        record { twins = Some (record { level = l; later = v; earlier = u }); compared = c + u + 1 } ≡ comparison_of d
     unfolding first_pair
-    passed-found hl hv {u} f =
+    passed-found hl hv {u} hu e =
+        let f = least-below (λ u. alike d l u v) e hu in
         let node : First (repeats d l) (width d l) v =
         record { below = hv; passes = any_at _ v u f.below f.passes; none = s.nodes } in
         let level : First (has_alike d) d.contacts l =
@@ -86,24 +77,8 @@ module _ (d : Diagram) where
         let some = distinct-is d ∙ ap not (any_at (has_alike d) d.contacts l hl level.passes) in
         rw (some, ← least-is _ level, ← least-is _ node, ← least-is _ f, s.count)
 
-  pub passed-all : {c : ℕ} → Passed d d.contacts 0 c → record { twins = Absent; compared = c } ≡ comparison_of d
+  pub passed-all : {c : ℕ} → Passed d d.contacts 0 c → record { twins = None; compared = c } ≡ comparison_of d
   unfolding total
   passed-all s =
       let none = distinct-is d ∙ ap not (any-not (has_alike d) d.contacts s.levels) in
       rw (none, s.count, add-zero (pairs_before d d.contacts))
-
--- What the code finds in the lent arrays, said of a diagram that has them.
-module _ {n : ℕ} {ws es : List ℕ} (d : Diagram) (h : HasLevels d n ws es) (l : ℕ) where
-  pub width-lent : l < n → get_or ws l 0 ≡ width d l
-  width-lent m = ap (λ (w : List ℕ). get_or w l 0) (sym h.widths) ∙ width_is d l (rw h.contacts m)
-
-  module _ (v : ℕ) {r : ℕ} (e : r ≡ least v (is_like es (l * 16) v)) where
-    found : r ≡ least v (λ u. alike d l u v)
-    unfolding edge_at
-    found = e ∙ ap (λ (x : List ℕ). least v (is_like x (l * 16) v)) (sym h.edges)
-
-    pub lent-first : r < v → First (λ u. alike d l u v) v r
-    lent-first = least-below (λ u. alike d l u v) found
-
-    pub lent_none : v ≤ r → repeats d l v ≡ false
-    lent_none = least-past (λ u. alike d l u v) found

@@ -13,7 +13,7 @@ use Rattle.diagram.specs.Diagram.{width, bit, edge}
 use Rattle.diagram.specs.Questions.{alike, distinct}
 use Rattle.diagram.proofs.Paths.{unlike}
 use Rattle.twins.specs.declared.Pair.{Pair}
-use Rattle.twins.specs.declared.Twins.TheVariants.{Absent, Present}
+use Rattle.std.specs.Prelude.{Some, None}
 use Rattle.twins.specs.Twins.{repeats, first_pair, twins_of, total, pairs_among, pairs_before, compared_to}
 use Rattle.twins.specs.Promises.{AreAlike, is_before, FirstTwins, NoTwins, is_up_to, PairsCounted, AllPairs}
 use Rattle.twins.proofs.Pairs.{has_alike, distinct-is}
@@ -43,10 +43,10 @@ module _ (p : Pair) where
   other-level l v u h = simp (ne_eqb p.level l h, or-false)
 
 -- The two answers differ, and a pair is what one says.
-absent-present : {q : Pair} → Absent ≡ Present q → ⊥
+absent-present : {q : Pair} → None ≡ Some q → ⊥
 absent-present e = let z : ◌≡◌ {A = ℕ} 0 1 = cc in omega arith
 
-present-is : {p q : Pair} → Present p ≡ Present q → p ≡ q
+present-is : {p q : Pair} → Some p ≡ Some q → p ≡ q
 present-is e = cc
 
 -- A pair of alike nodes, by the tests.
@@ -156,7 +156,7 @@ all-counted d =
 pub first-twins : FirstTwins
 first-twins d q e = go (distinct d) refl e
   where
-    go : (t : Bool) → distinct d ≡ t → cond t Absent (Present (first_pair d)) ≡ Present q →
+    go : (t : Bool) → distinct d ≡ t → cond t None (Some (first_pair d)) ≡ Some q →
         AreAlike d q × ((r : Pair) → AreAlike d r → is_before r q ≡ false)
     go true s e = absurd (absent-present e)
     go false s e = rw (← present-is e) (found_alike d s, none_before d s)
@@ -164,26 +164,26 @@ first-twins d q e = go (distinct d) refl e
 pub no-twins : NoTwins
 no-twins d = (one, other)
   where
-    one : twins_of d ≡ Absent → (q : Pair) → AreAlike d q → ⊥
+    one : twins_of d ≡ None → (q : Pair) → AreAlike d q → ⊥
     one e q h = go (distinct d) refl e
       where
-        go : (t : Bool) → distinct d ≡ t → cond t Absent (Present (first_pair d)) ≡ Absent → ⊥
+        go : (t : Bool) → distinct d ≡ t → cond t None (Some (first_pair d)) ≡ None → ⊥
         go true s e =
             let (b, differ) = unlike d s q.level q.earlier q.later h.level (omega (arith, h.earlier, h.later)) h.later (λ e. omega (arith, h.earlier)) in
             differ (h.edges b)
         go false s e = absent-present (sym e)
 
-    other : ((q : Pair) → AreAlike d q → ⊥) → twins_of d ≡ Absent
+    other : ((q : Pair) → AreAlike d q → ⊥) → twins_of d ≡ None
     other none = go (distinct d) refl
       where
-        go : (t : Bool) → distinct d ≡ t → cond t Absent (Present (first_pair d)) ≡ Absent
+        go : (t : Bool) → distinct d ≡ t → cond t None (Some (first_pair d)) ≡ None
         go true s = refl
         go false s = absurd (none (first_pair d) (found_alike d s))
 
 pub pairs-counted : PairsCounted
 pairs-counted d = go (distinct d) refl
   where
-    go : (t : Bool) → distinct d ≡ t → let twins = cond t Absent (Present (first_pair d)) in
+    go : (t : Bool) → distinct d ≡ t → let twins = cond t None (Some (first_pair d)) in
         compared_to d twins ≡ total d.contacts (λ l. total (width d l) (λ v. total v (λ u. bit (is_up_to twins (pair l v u)))))
     go true s = all-counted d
     go false s = counted d s

@@ -1,11 +1,9 @@
 -- What the search behind question 6 hands back: the first two alike nodes of one level, or that there are none, and how many pairs it
 -- compared.
-use Rattle.std.specs.Prelude.{ℕ, ◌*◌, ◌/◌, ◌-◌, ◌<◌, ◌≡◌, Bool, true, false, not, ◌&&◌, ◌||◌, ltb, eqb}
+use Rattle.std.specs.Prelude.{ℕ, ◌*◌, ◌/◌, ◌-◌, ◌<◌, ◌≡◌, Bool, true, false, not, ◌&&◌, ◌||◌, ltb, eqb, Option, Some, None}
 use Rattle.diagram.specs.declared.Diagram.{Diagram}
 use Rattle.diagram.specs.Diagram.{width, bit, edge}
 use Rattle.twins.specs.declared.Pair.{Pair}
-use Rattle.twins.specs.declared.Twins.{Twins}
-use Rattle.twins.specs.declared.Twins.TheVariants.{Absent, Present}
 use Rattle.twins.specs.Twins.{twins_of, total, pairs_among, comparison_of}
 
 -- Two alike nodes: of one level, with the same edges.
@@ -25,19 +23,19 @@ is_before p q =
 -- The nodes that are found are alike, and no pair of alike nodes comes before theirs.
 abbrev pub FirstTwins : Type 0
 FirstTwins =
-    (d : Diagram) (p : Pair) → twins_of d ≡ Present p →
+    (d : Diagram) (p : Pair) → twins_of d ≡ Some p →
     AreAlike d p × ((q : Pair) → AreAlike d q → is_before q p ≡ false)
 
 -- None is found exactly if no level has two alike nodes.
 abbrev pub NoTwins : Type 0
 NoTwins =
     (d : Diagram) →
-    (twins_of d ≡ Absent → (q : Pair) → AreAlike d q → ⊥) × (((q : Pair) → AreAlike d q → ⊥) → twins_of d ≡ Absent)
+    (twins_of d ≡ None → (q : Pair) → AreAlike d q → ⊥) × (((q : Pair) → AreAlike d q → ⊥) → twins_of d ≡ None)
 
 -- Whether a pair is among those up to the one that is found, so does not come after it; all are where none is found.
-abbrev pub is_up_to : Twins → Pair → Bool
-is_up_to Absent q = true
-is_up_to (Present p) q = not (is_before p q)
+abbrev pub is_up_to : Option Pair → Pair → Bool
+is_up_to None q = true
+is_up_to (Some p) q = not (is_before p q)
 
 -- So many pairs are compared as there are up to the one that is found, or as there are.
 abbrev pub PairsCounted : Type 0

@@ -1,12 +1,10 @@
 -- The search behind question 6: the first two alike nodes of one level, and how many pairs are compared to find them.
-use Rattle.std.specs.Prelude.{ℕ, zero, suc, ◌+◌, Bool, cond}
+use Rattle.std.specs.Prelude.{ℕ, zero, suc, ◌+◌, Bool, cond, Option, Some, None}
 use Rattle.fields.specs.Bounded.{any, least}
 use Rattle.diagram.specs.declared.Diagram.{Diagram}
 use Rattle.diagram.specs.Diagram.{width}
 use Rattle.diagram.specs.Questions.{alike, distinct}
 use Rattle.twins.specs.declared.Pair.{Pair}
-use Rattle.twins.specs.declared.Twins.{Twins}
-use Rattle.twins.specs.declared.Twins.TheVariants.{Absent, Present}
 use Rattle.twins.specs.declared.Comparison.{Comparison}
 
 -- Whether node v of level l is like a node before it.
@@ -20,8 +18,8 @@ first_pair d =
     let v = least (width d l) (repeats d l) in
     record { level = l; later = v; earlier = least v (λ u. alike d l u v) }
 
-abbrev pub twins_of : Diagram → Twins
-twins_of d = cond (distinct d) Absent (Present (first_pair d))
+abbrev pub twins_of : Diagram → Option Pair
+twins_of d = cond (distinct d) None (Some (first_pair d))
 
 -- The sum of f over the numbers below k.
 unfoldable pub total : ℕ → (ℕ → ℕ) → ℕ
@@ -37,9 +35,9 @@ abbrev pub pairs_before : Diagram → ℕ → ℕ
 pairs_before d l = total l (λ i. pairs_among (width d i))
 
 -- How many pairs are compared: all of them, or those before the pair that is found, and that one.
-abbrev pub compared_to : Diagram → Twins → ℕ
-compared_to d Absent = pairs_before d d.contacts
-compared_to d (Present p) = pairs_before d p.level + pairs_among p.later + p.earlier + 1
+abbrev pub compared_to : Diagram → Option Pair → ℕ
+compared_to d None = pairs_before d d.contacts
+compared_to d (Some p) = pairs_before d p.level + pairs_among p.later + p.earlier + 1
 
 abbrev pub comparison_of : Diagram → Comparison
 comparison_of d = record { twins = twins_of d; compared = compared_to d (twins_of d) }

@@ -1,11 +1,14 @@
 // Question 6: the first two alike nodes of one level, and how many pairs are compared to find them.
 #![tactic(auto)]
 
-ghost use Rattle.std.specs.Prelude.{◌≡◌, ◌+◌, ◌*◌, ◌<◌, length};
+ghost use Rattle.std.specs.Prelude.{◌≡◌, ◌<◌, false, MatchOption};
 ghost use Rattle.fields.specs.Bounded.{least};
-ghost use Rattle.diagram.specs.Inner.Bytes.{is_like};
-ghost use Rattle.diagram.specs.Inner.Lent.{Fit, WithLevels};
-ghost use Rattle.twins.specs.Twins.{comparison_of};
+ghost use Rattle.diagram.specs.Diagram.{width};
+ghost use Rattle.diagram.specs.Questions.{alike};
+ghost use Rattle.diagram.specs.Inner.Fit.{Fit};
+ghost use Rattle.twins.specs.Twins.{repeats, comparison_of};
+
+use diagram::Diagram;
 
 // Two nodes of one level, the later with the greater number.
 #[derive(Clone, Copy, Drop)]
@@ -15,54 +18,44 @@ pub struct Pair {
     pub earlier: usize,
 }
 
-// Question 6's answer: no two nodes of one level are alike, or the first two that are (duplicate nodes, in the field's terms).
-#[derive(Clone, Copy, Drop)]
-pub enum Twins {
-    Absent,
-    Present(Pair),
-}
-
-// The answer, and how many pairs were compared.
+// Question 6's answer: the first two nodes of one level that are alike (duplicate nodes, in the field's terms), if there are any; and
+// how many pairs were compared.
 #[derive(Clone, Copy, Drop)]
 pub struct Comparison {
-    pub twins: Twins,
+    pub twins: Option<Pair>,
     pub compared: usize,
 }
 
-// The first of the nodes before v that has the edges of v, or v. The edges stand from a place on, two bytes for each node.
-fn first_like(edges: &[u8], from: usize, v: usize) -> usize
-    requires { from + 2 * v + 1 < length edges.now }
-    ensures { result ≡ least v (is_like edges.now from v) }
+// The first of the nodes before v in its level that has the edges of v.
+fn first_like(d: &Diagram, level: usize, v: usize) -> Option<usize>
+    requires { Fit d.now × (level < d.now.contacts) × (v < width d.now level) }
+    ensures { MatchOption result (repeats d.now level v ≡ false)
+        (λ u. (u < v) × (u ≡ least v (λ u. alike d.now level u v))) }
 {
-    let zero = edges[from + 2 * v];
-    let one = edges[from + (2 * v + 1)];
-    for u in 0..v {
-        if edges[from + 2 * u] == zero {
-            if edges[from + (2 * u + 1)] == one {
-                return u;
-            }
-        }
-    }
-    v
+    let edges = d.level(level);
+    let node = &edges[2 * v..2 * v + 2];
+    edges[..2 * v]
+        .chunks_exact(2)
+        .position(|other| other == node)
 }
 
 // Question 6: does each pair of nodes of one level differ in an edge? By level upward, then by the later node, then by the earlier,
 // up to the first pair that does not.
-pub fn find_twins<'a>(n: usize, widths: &'a [usize], edges: &'a [u8]) -> Comparison
-    requires { Fit n widths.now edges.now }
-    ensures { WithLevels n widths.now edges.now (λ d. result ≡ comparison_of d) }
+pub fn find_twins(d: &Diagram) -> Comparison
+    requires { Fit d.now }
+    ensures { result ≡ comparison_of d.now }
 {
     let mut compared: usize = 0;
-    for level in 0..n {
-        for later in 0..widths[level] {
-            let earlier = first_like(edges, level * 16, later);
-            if earlier < later {
+    for level in 0..d.contacts {
+        for later in 0..d.width(level) {
+            if let Some(earlier) = first_like(d, level, later) {
+                let pair = Pair {
+                    level,
+                    later,
+                    earlier,
+                };
                 return Comparison {
-                    twins: Twins::Present(Pair {
-                        level: level,
-                        later: later,
-                        earlier: earlier,
-                    }),
+                    twins: Some(pair),
                     compared: compared + earlier + 1,
                 };
             }
@@ -70,7 +63,7 @@ pub fn find_twins<'a>(n: usize, widths: &'a [usize], edges: &'a [u8]) -> Compari
         }
     }
     Comparison {
-        twins: Twins::Absent,
-        compared: compared,
+        twins: None,
+        compared,
     }
 }

@@ -19,8 +19,7 @@ use Rattle.files.proofs.Heads.{field, counts}
 use Rattle.netlist.specs.Netlist.{gate_line, lamp_field}
 use Rattle.netlist.proofs.Lists.{length-gates, get_or-gates, length_pairs, get_or-pairs}
 use Rattle.netlist.proofs.Sound.{Bounds, Wired, PairsWired, LampWired}
-use Rattle.wiring.specs.declared.form.Form.{Form}
-use Rattle.wiring.specs.declared.form.Form.TheVariants.{Formed, Unformed}
+use Rattle.std.specs.Prelude.{Option, Some, None}
 use Rattle.wiring.specs.declared.sound.Wiring.TheVariants.{Sound, Unsound}
 use Rattle.wiring.specs.Questions.{ends_in_lamp, form_of, form_number, are_gates, are_pairs, is_sound, wiring_number, netlist_of, netlist_refusal}
 use Rattle.wiring.proofs.Tests.{gates-at, pairs-at}
@@ -68,7 +67,7 @@ ends is = go (leb (length is) 3) refl
           record { whole = parts.whole; least = omega arith; most = parts.most },
         )
 
-pub well-formed : (fs : Fields) (n : ℕ) → form_of fs ≡ Formed n → WellFormed fs n
+pub well-formed : (fs : Fields) (n : ℕ) → form_of fs ≡ Some n → WellFormed fs n
 unfolding form_of
 well-formed fs n e = go (a && b && c && o && k) refl e
   where
@@ -90,7 +89,7 @@ well-formed fs n e = go (a && b && c && o && k) refl e
     k : Bool
     k = ends_in_lamp fs.items
 
-    go : (t : Bool) → (a && b && c && o && k) ≡ t → cond t (Formed m) Unformed ≡ Formed n → WellFormed fs n
+    go : (t : Bool) → (a && b && c && o && k) ≡ t → cond t (Some m) None ≡ Some n → WellFormed fs n
     go true t e =
         let parted = and_left (a && b && c && o) k t in
         let first = and_left (a && b && c) o parted in
@@ -116,7 +115,7 @@ well-formed fs n e = go (a && b && c && o && k) refl e
 
 -- What a yes to questions 11 and 12 says: the form, the gates', the outputs' and the lamp's lines.
 pub record AcceptedNetlist (file : List ℕ) : Type 0 where
-  pub formed : form_of (fields_of file) ≡ Formed (netlist_of (fields_of file).items).contacts
+  pub formed : form_of (fields_of file) ≡ Some (netlist_of (fields_of file).items).contacts
   pub form : WellFormed (fields_of file) (netlist_of (fields_of file).items).contacts
   pub sound : is_sound (netlist_of (fields_of file).items).contacts (value_in (fields_of file).items 1) (value_in (fields_of file).items 2)
       (value_in (fields_of file).items 3) ≡ true
@@ -125,7 +124,7 @@ pub record AcceptedNetlist (file : List ℕ) : Type 0 where
   pub shown : PairsWired (netlist_of (fields_of file).items)
   pub lit : LampWired (netlist_of (fields_of file).items)
 
-passed : (file : List ℕ) → form_of (fields_of file) ≡ Formed (contacts_of (fields_of file).items) →
+passed : (file : List ℕ) → form_of (fields_of file) ≡ Some (contacts_of (fields_of file).items) →
     is_sound (contacts_of (fields_of file).items) (value_in (fields_of file).items 1) (value_in (fields_of file).items 2)
     (value_in (fields_of file).items 3) ≡ true →
     AcceptedNetlist file
@@ -169,8 +168,8 @@ accepted file = go (form_of (fields_of file)) (is_sound (contacts_of is) (value_
     is : List Item
     is = (fields_of file).items
 
-    go : (f : Form) (b : Bool) → form_of (fields_of file) ≡ f → is_sound (contacts_of is) (value_in is 1) (value_in is 2) (value_in is 3) ≡ b →
+    go : (f : Option ℕ) (b : Bool) → form_of (fields_of file) ≡ f → is_sound (contacts_of is) (value_in is 1) (value_in is 2) (value_in is 3) ≡ b →
         first_no (form_number f ∷ wiring_number (cond b Sound Unsound) ∷ []) ≡ 0 → AcceptedNetlist file
-    go (Formed n) true f s e = passed file (f ∙ ap Formed (well-formed (fields_of file) n f).contacts) s
-    go (Formed n) false f s e = absurd (omega arith)
-    go Unformed b f s e = absurd (omega arith)
+    go (Some n) true f s e = passed file (f ∙ ap Some (well-formed (fields_of file) n f).contacts) s
+    go (Some n) false f s e = absurd (omega arith)
+    go None b f s e = absurd (omega arith)

@@ -18,7 +18,7 @@ use Rattle.netlist.specs.declared.Pair.{Pair}
 use Rattle.netlist.specs.Netlist.{Netlist, gate_line, line_count, gate_at, pair_at, pairs_of, gate_bytes, pair_bytes, net_with, lamp_field, file_of}
 use Rattle.netlist.proofs.Files.{length-gate-bytes, no-gate, gate-back, gates-back, length-pair-bytes, no-pair, pair-back, pairs-back, lamp-value, items_of, file-fields}
 use Rattle.netlist.proofs.Sound.{Bounds, Wired, PairsIn, PairsWired, LampWired}
-use Rattle.wiring.specs.declared.form.Form.TheVariants.{Formed}
+use Rattle.std.specs.Prelude.{Some}
 use Rattle.wiring.specs.Questions.{is_gate, is_pair, are_pairs, form_of, is_sound, netlist_of, netlist_refusal}
 use Rattle.wiring.proofs.Forms.{may_be_lamp, formed}
 use Rattle.wiring.proofs.Tests.{on-gate, in_pair}
@@ -48,7 +48,7 @@ ends-formed i j k (p ∷ []) h = (refl, refl)
 ends-formed i j k (p ∷ q ∷ ps) h = absurd (omega arith)
 
 module _ (net : Netlist) (b : Bounds net) where
-  items-formed : Formed net.contacts ≡ form_of (record { items = items_of net; framing = Whole })
+  items-formed : Some net.contacts ≡ form_of (record { items = items_of net; framing = Whole })
   unfolding contacts_in
   items-formed =
       let g = length-gate-bytes net.gates in
@@ -61,7 +61,7 @@ module _ (net : Netlist) (b : Bounds net) where
       (whole_parts 5 4 1 8 (flat_map pair_bytes net.pairs) (omega arith) (omega arith) (omega arith))
       ends.0 ends.1
 
-  pub file-formed : form_of (fields_of (file_of net)) ≡ Formed net.contacts
+  pub file-formed : form_of (fields_of (file_of net)) ≡ Some net.contacts
   file-formed = ap form_of (file-fields net) ∙ sym items-formed
 
   pairs-sound : (lines : ℕ) (ps : List Pair) → lines ≡ line_count net → PairsIn (line_count net) ps →

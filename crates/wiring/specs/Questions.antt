@@ -1,5 +1,5 @@
 -- Questions 11 and 12, about a netlist file.
-use Rattle.std.specs.Prelude.{ℕ, ◌+◌, ◌/◌, Bool, ◌&&◌, ◌||◌, cond, List, [], ◌∷◌, leb, ltb, eqb, length}
+use Rattle.std.specs.Prelude.{ℕ, ◌+◌, ◌/◌, Bool, ◌&&◌, ◌||◌, cond, Option, Some, None, List, [], ◌∷◌, leb, ltb, eqb, length}
 use Rattle.fields.specs.Bounded.{all}
 use Rattle.fields.specs.Fields.{Item, Fields, fields_of, item_in, value_in}
 use Rattle.fields.specs.Refusals.{framing_number, first_no}
@@ -7,8 +7,6 @@ use Rattle.files.specs.Header.{contacts_in, contacts_number, contacts_of, has_pa
 use Rattle.netlist.specs.declared.Gate.{Gate}
 use Rattle.netlist.specs.declared.Pair.{Pair}
 use Rattle.netlist.specs.Netlist.{Netlist, gate_at, pair_at, gates_of, pairs_of, gate_line, net_with}
-use Rattle.wiring.specs.declared.form.Form.{Form}
-use Rattle.wiring.specs.declared.form.Form.TheVariants.{Formed, Unformed}
 use Rattle.wiring.specs.declared.sound.Wiring.{Wiring}
 use Rattle.wiring.specs.declared.sound.Wiring.TheVariants.{Sound, Unsound}
 
@@ -17,19 +15,19 @@ abbrev pub ends_in_lamp : List Item → Bool
 ends_in_lamp is = leb (length is) 3 || (has_parts 6 4 1 1 (item_in is 3) && leb (length is) 4)
 
 -- 11. Does the file have whole fields of tags 1, 4, 5 in that order, then at most tag 6 and no more, tag 1 as in question 2, tag 4 of
--- 0 to 10,602 whole gates, tag 5 of 1 to 8 whole outputs, tag 6 of one whole pair? No: 11.
-unfoldable pub form_of : Fields → Form
+-- 0 to 10,602 whole gates, tag 5 of 1 to 8 whole outputs, tag 6 of one whole pair? It then has so many contacts. No: 11.
+unfoldable pub form_of : Fields → Option ℕ
 form_of fs =
     cond
     (eqb (framing_number fs.framing) 0 && eqb (contacts_number (contacts_in fs.items)) 0
     && has_parts 4 5 0 10602 (item_in fs.items 1) && has_parts 5 4 1 8 (item_in fs.items 2)
     && ends_in_lamp fs.items)
-    (Formed (contacts_of fs.items))
-    Unformed
+    (Some (contacts_of fs.items))
+    None
 
-abbrev pub form_number : Form → ℕ
-form_number (Formed n) = 0
-form_number Unformed = 11
+abbrev pub form_number : Option ℕ → ℕ
+form_number (Some n) = 0
+form_number None = 11
 
 -- A gate on its own line: its kind is 0 or 1, and its sources are below.
 abbrev pub is_gate : ℕ → Gate → Bool

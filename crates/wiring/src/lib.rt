@@ -2,9 +2,11 @@
 #![tactic(auto)]
 
 mod form;
+mod parts;
 mod reading;
 mod sound;
 
-pub use form::{Form, ask_form};
-pub use reading::{Parts, read};
+pub use form::ask_form;
+pub use parts::Parts;
+pub use reading::read;
 pub use sound::{Wiring, ask_wiring};

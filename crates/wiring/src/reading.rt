@@ -1,65 +1,24 @@
 // A netlist file read under questions 11 and 12.
-ghost use Rattle.std.specs.Prelude.{◌≡◌};
-ghost use Rattle.wiring.specs.Inner.Read.{Read};
+ghost use Rattle.std.specs.Prelude.{◌≡◌, IfOk};
+ghost use Rattle.files.specs.Refusals.{number_in};
+ghost use Rattle.wiring.specs.Questions.{netlist_refusal};
+ghost use Rattle.wiring.specs.Inner.Read.{PartsOf};
 
-use crate::form::Form;
+use crate::parts::Parts;
 use crate::sound::Wiring;
 use crate::{form, sound};
-use fields::Field;
-
-// A netlist's contacts and the fields of its gates, its outputs and its lamp, or the number of the first question that it fails. The
-// lamp's field is empty where there is none.
-#[derive(Clone, Copy, Drop)]
-pub struct Parts {
-    pub refusal: u32,
-    pub contacts: usize,
-    pub gates: Field,
-    pub outputs: Field,
-    pub lamp: Field,
-}
-
-// A refusal, with every other result zero.
-fn refused(number: u32) -> Parts
-    ensures { result.refusal ≡ number }
-{
-    let none = Field {
-        tag: 0,
-        start: 0,
-        len: 0,
-    };
-    Parts {
-        refusal: number,
-        contacts: 0,
-        gates: none,
-        outputs: none,
-        lamp: none,
-    }
-}
+use files::Refusal;
 
 // The parts of a netlist file, under questions 11 and 12.
-pub fn read(file: &[u8]) -> Parts
-    ensures { Read file.now result }
+pub fn read(file: &[u8]) -> Result<Parts<'_>, Refusal>
+    ensures refusal { number_in result ≡ netlist_refusal file.now }
+    ensures parts { IfOk result (λ p. PartsOf file.now p) }
 {
-    let row = files::first_four(file);
-    let gates = row.second;
-    let outputs = row.third;
-    let lamp = row.fourth;
-    let Form::Formed(n) = form::ask_form(file, row) else {
-        return refused(11);
+    let Some(parts) = form::ask_form(file) else {
+        return Err(Refusal::Form);
     };
-    let Wiring::Sound = sound::ask_wiring(
-        n,
-        fields::value(file, gates),
-        fields::value(file, outputs),
-        fields::value(file, lamp),
-    ) else {
-        return refused(12);
+    let Wiring::Sound = sound::ask_wiring(&parts) else {
+        return Err(Refusal::Wiring);
     };
-    Parts {
-        refusal: 0,
-        contacts: n,
-        gates: gates,
-        outputs: outputs,
-        lamp: lamp,
-    }
+    Ok(parts)
 }

@@ -1,7 +1,7 @@
--- Batches of 64 code inputs: bit k of a line's batch is the line's value at input base + k. Two batches of a line lie side by side.
-use Rattle.std.specs.Prelude.{ℕ, ◌+◌, ◌*◌, ◌/◌, ◌≤◌, ◌<◌, ◌≡◌, true, ◌||◌, cond, List, [], ◌∷◌, map, eqb, length, get_or, take}
+-- Batches of 64 code inputs: bit k of a line's batch is the line's value at input base + k. A line has two, for 64 inputs each.
+use Rattle.std.specs.Prelude.{ℕ, ◌+◌, ◌/◌, ◌≤◌, ◌<◌, ◌≡◌, true, ◌||◌, cond, List, [], ◌∷◌, map, eqb, length, get_or, take}
 use Rattle.std.specs.Int.Bits.{bit_and, bit_or}
-use Rattle.fields.specs.Bounded.{listed}
+use Rattle.netlist.specs.declared.Gate.{Gate}
 use Rattle.netlist.specs.declared.Hold.{Hold}
 use Rattle.diagram.specs.Diagram.{input_of}
 use Rattle.netlist.specs.Netlist.{gate_at, gate_line, gates_of, site_of}
@@ -9,22 +9,41 @@ use Rattle.simulation.specs.Run.{Rule, rail, gate, held, holding, work_out}
 use Rattle.rules.specs.Code.{code_rails}
 use Rattle.wiring.specs.Questions.{are_gates, are_pairs}
 use Rattle.bits.specs.Inner.Bits.{bit_of, bits_of}
+use Rattle.batches.specs.declared.batch.TwoBatches.{TwoBatches}
+use Rattle.batches.specs.declared.batch.Site.{Site}
+use Rattle.batches.specs.declared.batch.Site.TheVariants.{Line, FirstPin, SecondPin}
 
--- The first batches of the lines, half 0, or the second, half 1.
-unfoldable pub half_of : ℕ → List ℕ → List ℕ
-half_of b ws = listed (λ x. get_or ws (2 * x + b) 0) (length ws / 2) 0
+-- The first batches of the lines, and the second.
+abbrev pub firsts : List TwoBatches → List ℕ
+firsts ws = map (λ (w : TwoBatches). w.first) ws
+
+abbrev pub seconds : List TwoBatches → List ℕ
+seconds ws = map (λ (w : TwoBatches). w.second) ws
+
+-- A line's two batches.
+abbrev pub none : TwoBatches
+none = record { first = 0; second = 0 }
+
+abbrev pub at : List TwoBatches → ℕ → TwoBatches
+at ws i = get_or ws i none
 
 -- What a gate makes of its kind's batch, which is 0 or 1 at every bit, and those of its sources.
 abbrev pub gate_batch : ℕ → ℕ → ℕ → ℕ
 gate_batch kind a b = bit_or (bit_and a b) (bit_and (bit_or a b) kind)
 
--- What a line shows: the held line its held batch.
-abbrev pub held_batch : ℕ → ℕ → ℕ → ℕ → ℕ
-held_batch line batch at made = cond (eqb line at) batch made
+abbrev pub gate_batches : TwoBatches → TwoBatches → TwoBatches → TwoBatches
+gate_batches kind a b =
+    record { first = gate_batch kind.first a.first b.first; second = gate_batch kind.second a.second b.second }
 
--- A hold by its line and its value byte.
-abbrev pub hold_of : ℕ → ℕ → Hold
-hold_of line value = record { line = line; value = value }
+-- What a line shows: the held line what it is held at.
+abbrev pub held_batch : {A : Type 0} → ℕ → A → ℕ → A → A
+held_batch line held at made = cond (eqb line at) held made
+
+-- The number of a site in a hold's value byte.
+abbrev pub site_number : Site → ℕ
+site_number Line = 0
+site_number FirstPin = 1
+site_number SecondPin = 2
 
 -- The line whose site is held, by the line's hold or the site's own; 0 if there is none.
 abbrev pub held_line : Hold → ℕ → ℕ
@@ -49,26 +68,33 @@ gates_at gates h before = work_out (rule_of h) (map gate (gates_of gates)) befor
 abbrev pub source_of : Hold → ℕ → ℕ → ℕ → ℕ
 source_of h line pin source = held (h ∷ []) line pin (held (h ∷ []) line 0 source)
 
--- The source lines of the first gates, two numbers a gate.
-pub record SourcesTaken (first : ℕ) (h : Hold) (count : ℕ) (gates sources : List ℕ) : Type 0 where
-  pub room : 2 * count ≤ length sources
-  pub left : (g : ℕ) → g < count → get_or sources (2 * g) 0 ≡ source_of h (first + g) 1 (gate_at gates g).left
-  pub right : (g : ℕ) → g < count → get_or sources (2 * g + 1) 0 ≡ source_of h (first + g) 2 (gate_at gates g).right
+-- A gate as a hold leaves it: the line of the held value's constant in the place of what it holds.
+abbrev pub held_gate : Hold → ℕ → Gate → Gate
+held_gate h line g = record { kind = g.kind; left = source_of h line 1 g.left; right = source_of h line 2 g.right }
+
+-- The first gates, as a hold leaves them.
+abbrev pub blank : Gate
+blank = record { kind = 0; left = 0; right = 0 }
+
+abbrev pub GatesTaken : ℕ → Hold → ℕ → List ℕ → List Gate → Type 0
+GatesTaken first h count gates taken = (g : ℕ) → g < count → get_or taken g blank ≡ held_gate h (first + g) (gate_at gates g)
 
 -- What the gates' batches are worked out from: gates whose sources are below their own lines, room for every line, and the constants.
-pub record GatesReady (first : ℕ) (h : Hold) (gates sources batches : List ℕ) : Type 0 where
+pub record GatesReady (first : ℕ) (h : Hold) (gates : List ℕ) (made : List Gate) (batches : List ℕ) : Type 0 where
   pub after : 2 ≤ first
   pub fits : first + length gates / 5 ≤ length batches
   pub wired : are_gates first gates ≡ true
-  pub sourced : SourcesTaken first h (length gates / 5) gates sources
+  pub count : length made ≡ length gates / 5
+  pub taken : GatesTaken first h (length gates / 5) gates made
   pub constant : (k v : ℕ) → k < 64 → v ≤ 1 → bit_of k (get_or batches v 0) ≡ v
 
 -- What the lines' batches are worked out from.
-pub record BatchesReady (n : ℕ) (h : Hold) (gates sources : List ℕ) (room : ℕ) : Type 0 where
+pub record BatchesReady (n : ℕ) (h : Hold) (gates : List ℕ) (made : List Gate) (room : ℕ) : Type 0 where
   pub few : n ≤ 12
-  pub fits : 2 * (gate_line n + length gates / 5) ≤ room
+  pub fits : gate_line n + length gates / 5 ≤ room
   pub wired : are_gates (gate_line n) gates ≡ true
-  pub sourced : SourcesTaken (gate_line n) h (length gates / 5) gates sources
+  pub count : length made ≡ length gates / 5
+  pub taken : GatesTaken (gate_line n) h (length gates / 5) gates made
 
 -- What a search goes through.
 pub record SearchReady (n : ℕ) (gates pairs : List ℕ) : Type 0 where
@@ -77,7 +103,7 @@ pub record SearchReady (n : ℕ) (gates pairs : List ℕ) : Type 0 where
   pub wired : are_gates (gate_line n) gates ≡ true
   pub paired : are_pairs (gate_line n + length gates / 5) pairs ≡ true
 
--- Room for the gates' sources and for every line's batches.
-pub record BuffersFit (n : ℕ) (gates : List ℕ) (sources batches : ℕ) : Type 0 where
-  pub sources-fit : 2 * (length gates / 5) ≤ sources
-  pub batches-fit : 2 * (gate_line n + length gates / 5) ≤ batches
+-- Room for the gates and for every line's batches.
+pub record BuffersFit (n : ℕ) (gates : List ℕ) (room lines : ℕ) : Type 0 where
+  pub gates-fit : length gates / 5 ≤ room
+  pub batches-fit : gate_line n + length gates / 5 ≤ lines

@@ -1,5 +1,5 @@
 -- Truth tables, 64 bits a word: a function of so many contacts is a block of 2^so many bits at a multiple of its length.
-use Rattle.std.specs.Prelude.{ℕ, zero, suc, ◌+◌, ◌*◌, ◌-◌, ◌/◌, ◌%◌, ◌^◌, ◌≤◌, ◌<◌, ◌≡◌, cond, List, [], ◌∷◌, ◌++◌, map, leb, eqb, length, get_or, take}
+use Rattle.std.specs.Prelude.{ℕ, zero, suc, ◌+◌, ◌*◌, ◌-◌, ◌/◌, ◌%◌, ◌^◌, ◌≤◌, ◌≡◌, Bool, true, cond, List, [], ◌∷◌, ◌++◌, map, leb, eqb, length, get_or, All}
 use Rattle.std.proofs.lemmas.List.Edits.{sets}
 use Rattle.fields.specs.Bounded.{listed}
 use Rattle.fields.specs.Fields.{field_bytes}
@@ -25,42 +25,41 @@ pub record Block (ws : List ℕ) (left start : ℕ) : Type 0 where
   pub whole : start % 2 ^ left ≡ 0
   pub within : start + 2 ^ left ≤ 64 * length ws
 
--- The first places of a list are those of blocks.
-pub record Blocks (ws : List ℕ) (left count : ℕ) (starts : List ℕ) : Type 0 where
-  pub listed : count ≤ length starts
-  pub each : (i : ℕ) → i < count → Block ws left (get_or starts i 0)
+-- The places of a list are those of blocks.
+abbrev pub Blocks : List ℕ → ℕ → List ℕ → Type 0
+Blocks ws left starts = All (Block ws left) starts
 
--- The functions at the first places of a list.
+-- The functions at the places of a list.
 abbrev pub mention_at : List ℕ → ℕ → List ℕ → ℕ → Function
 mention_at ws left starts k = block_at ws left (get_or starts k 0)
 
--- The functions of a level that so many mentions give.
-abbrev pub level_at : List ℕ → ℕ → List ℕ → ℕ → List Function
-level_at ws left mentions count = firsts (mention_at ws left mentions) count
+-- The functions of a level that some mentions give.
+abbrev pub level_at : List ℕ → ℕ → List ℕ → List Function
+level_at ws left mentions = firsts (mention_at ws left mentions) (length mentions)
 
-abbrev pub blocks_at : List ℕ → ℕ → ℕ → List ℕ → List Function
-blocks_at ws left count starts = map (block_at ws left) (take count starts)
+abbrev pub blocks_at : List ℕ → ℕ → List ℕ → List Function
+blocks_at ws left starts = map (block_at ws left) starts
 
--- The count of a level's functions; 9 stands for more than eight, and at the constants nothing is counted.
-abbrev pub width_of : ℕ → List Function → ℕ
-width_of left fs = cond (eqb left 0) 0 (cond (leb (length fs) 8) (length fs) 9)
+-- Whether a level's functions can be listed: they are at most eight, or constants, which are not listed.
+abbrev pub is_few : ℕ → List Function → Bool
+is_few left fs = cond (eqb left 0) true (leb (length fs) 8)
 
--- The places of a level's functions.
+-- The places of a level's functions, at most eight.
 pub record Starts (ws : List ℕ) (left : ℕ) (fs : List Function) (starts : List ℕ) : Type 0 where
-  pub blocks : Blocks ws left (length fs) starts
-  pub are : blocks_at ws left (length fs) starts ≡ fs
+  pub few : length starts ≤ 8
+  pub blocks : Blocks ws left starts
+  pub are : blocks_at ws left starts ≡ fs
 
--- What writing the numbers of a level's mentions leaves: these bytes from a place on, and the places of the level's functions, if they
+-- What numbering a level's mentions leaves: their numbers, and the places of the level's functions, if they are not constants.
+pub record Numbered (ws : List ℕ) (left : ℕ) (mentions numbers starts : List ℕ) : Type 0 where
+  pub numbers-are : numbers ≡ listed (λ k. number_in (level_at ws left mentions) (mention_at ws left mentions k)) (length mentions) 0
+  pub starts-are : (left ≡ 0 → ⊥) → Starts ws left (level_at ws left mentions) starts
+
+-- What writing a field of numbers leaves: these bytes from a place on, and the places of the functions that have the numbers, if they
 -- are not constants.
 pub record Put (ws : List ℕ) (left : ℕ) (fs : List Function) (at : ℕ) (bytes before after starts' : List ℕ) : Type 0 where
   pub written : after ≡ sets before at bytes
   pub starts : (left ≡ 0 → ⊥) → Starts ws left fs starts'
-
--- The mentions numbered.
-abbrev pub Numbered : List ℕ → ℕ → ℕ → List ℕ → ℕ → List ℕ → List ℕ → List ℕ → Type 0
-Numbered ws left count mentions at before after starts =
-    let fs = level_at ws left mentions count in
-    Put ws left fs at (listed (λ k. number_in fs (mention_at ws left mentions k)) count 0) before after starts
 
 -- The level that the halves of a level's functions give, and the field of the level's edges to it.
 abbrev pub next_of : List Function → List Function

@@ -6,12 +6,20 @@ use Rattle.diagram.specs.Diagram.{bit, input_of}
 use Rattle.bits.specs.Inner.Bits.{bit_of}
 use Rattle.canonical.specs.Inner.Blocks.{input_at}
 use Rattle.rulesheet.specs.Rules.{accepts, fits}
+use Rattle.cubes.specs.declared.Asked.{Asked}
+use Rattle.cubes.specs.declared.Asked.TheVariants.{Open, Closed, Either}
 use Rattle.cubes.specs.declared.Cube.{Cube}
 
 -- A word that is 1 where the last contacts fit a rule: those from `fixed` on, so many.
 pub record Low (n fixed count : ℕ) (rule : List ℕ) (pattern : ℕ) : Type 0 where
   pub bits : (k : ℕ) → k < 64 →
       bit_of k pattern ≡ bit (all count (λ i. accepts (get_or rule (fixed + i) 0) (input_of k (n - suc (fixed + i)))))
+
+-- What a rule's byte asks of a contact.
+abbrev pub asked_of : ℕ → Asked
+asked_of zero = Open
+asked_of (suc zero) = Closed
+asked_of (suc (suc c)) = Either
 
 -- The digits of the mask and of the value that a rule's byte gives.
 abbrev pub mask_digit : ℕ → ℕ
@@ -32,7 +40,7 @@ pub record High (fixed count : ℕ) (rule : List ℕ) (mask value : ℕ) : Type 
 
 -- Whether the input at bit k of word w is in a cube.
 abbrev pub is_in : Cube → ℕ → ℕ → Bool
-is_in c w k = eqb (bit_and w c.mask) c.value && eqb (bit_of k c.pattern) 1
+is_in c w k = eqb (bit_and w c.words.mask) c.words.value && eqb (bit_of k c.pattern) 1
 
 -- The cube of a rule: the inputs that fit it.
 pub record CubeOf (n : ℕ) (rule : List ℕ) (c : Cube) : Type 0 where

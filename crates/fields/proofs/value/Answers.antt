@@ -1,29 +1,20 @@
 -- `value` meets its contract: where the field runs past the file, what is taken past the end is nothing.
 use native.Mathlib.Omega.{arith}
-use native.Mathlib.Nat.{add-sub_cancel_left}
 use Prim.Native.Nat.{ℕ, ◌-◌}
-use mathlib.Core.Path.{sym, ap, ◌∙◌}
-use lib.ListN.{length, take, drop, length-drop, drop_of_length-le}
-use lib.Seq.{take-nil, take_all}
+use mathlib.Core.Path.{ap, ◌∙◌}
+use Rattle.std.proofs.lemmas.List.{take_min, drop_min}
+use lib.ListN.{length, take, drop, length-drop}
+use lib.Seq.{take_all}
 use Rattle.fields.specs.Fields.{value_of}
 use Rattle.fields.proofs.value.Goals as goal
-
-pub returns-then-file-start : goal.returns-then-file-start
-unfolding value_of
-returns-then-file-start c =
-    let a = c.args in
-    sym (ap (take a.field.len) (drop_of_length-le a.file.now {i = a.field.start} (omega arith)) ∙ take-nil a.field.len)
-
-pub returns-then-file-start-2 : goal.returns-then-file-start-2
-unfolding value_of
-returns-then-file-start-2 c =
-    let a = c.args in
-    let d = drop a.field.start a.file.now in
-    let l = length-drop a.field.start a.file.now in
-    take_all (length a.file.now - a.field.start) d (omega arith) ∙ sym (take_all a.field.len d (omega arith))
 
 pub returns : goal.returns
 unfolding value_of
 returns c =
-    let a = c.args in
-    ap (λ (n : ℕ). take n (drop a.field.start a.file.now)) (add-sub_cancel_left a.field.start a.field.len)
+    let file = c.args.file.now in
+    let field = c.args.field in
+    let d = drop c.min.result file in
+    let rest = take_all (length file - c.min.result) d (omega (arith, length-drop c.min.result file)) in
+    ap (λ (k : ℕ). take k (take (length file - c.min.result) d)) c.min-2.ensures
+    ∙ take_min field.len (take (length file - c.min.result) d)
+    ∙ ap (take field.len) (rest ∙ ap (λ (k : ℕ). drop k file) c.min.ensures ∙ drop_min field.start file)

@@ -1,26 +1,33 @@
 -- How code that writes gates one after another meets the definitions that make them.
 use Rattle.std.specs.Prelude.{ℕ, ◌+◌, ◌*◌, ◌≤◌, ◌≡◌, length}
-use mathlib.Core.List.{List, flat_map}
+use mathlib.Core.List.{flat_map}
 use Rattle.std.proofs.lemmas.List.Edits.{sets}
 use Rattle.netlist.specs.Netlist.{gate_bytes}
 use Rattle.rules.specs.Make.{Make}
+use Rattle.gates.specs.declared.gate.Gates.{Gates}
 
--- With `made` gates already written and gate g on line first + g, the gates of m follow in the buffer, nothing else in it changes,
--- the result is m's, and the number of gates made is counted on.
-pub record Written {A : Type 0} (m : Make A) (first made : ℕ) (before after : List ℕ) (a : A) (total : ℕ) : Type 0 where
-  pub bytes : after ≡ sets before (5 * made) (flat_map gate_bytes (m (first + made)).0)
-  pub count : total ≡ made + length (m (first + made)).0
-  pub result : a ≡ (m (first + made)).1
+-- The line of the next gate.
+abbrev pub free_line : Gates → ℕ
+free_line g = g.first + g.made
+
+-- From one state of a writer to another: the buffer is the same, the gates of m follow in it those made before, nothing else in it
+-- changes, the gates made are counted on, and the result is m's.
+pub record Written {A : Type 0} (m : Make A) (before after : Gates) (a : A) : Type 0 where
+  pub same_buffer : after.out.ghost_name ≡ before.out.ghost_name
+  pub same_first : after.first ≡ before.first
+  pub bytes : after.out.now ≡ sets before.out.now (5 * before.made) (flat_map gate_bytes (m (free_line before)).0)
+  pub count : after.made ≡ before.made + length (m (free_line before)).0
+  pub result : a ≡ (m (free_line before)).1
 
 -- The same, without a word of the result.
-abbrev pub Grown : {A : Type 0} → Make A → ℕ → ℕ → List ℕ → List ℕ → ℕ → Type 0
-Grown m first made before after total = Written m first made before after (m (first + made)).1 total
+abbrev pub Grown : {A : Type 0} → Make A → Gates → Gates → Type 0
+Grown m before after = Written m before after (m (free_line before)).1
 
 -- Room for more gates: their lines are numbers of two bytes, and the buffer holds their bytes.
-pub record GateRoom (first made more : ℕ) (out : List ℕ) : Type 0 where
-  pub lines : first + (made + more) ≤ 65536
-  pub bytes : 5 * (made + more) ≤ length out
+pub record GateRoom (g : Gates) (more : ℕ) : Type 0 where
+  pub lines : g.first + (g.made + more) ≤ 65536
+  pub bytes : 5 * (g.made + more) ≤ length g.out.now
 
 -- Room for the gates of m.
-abbrev pub RoomFor : {A : Type 0} → Make A → ℕ → ℕ → List ℕ → Type 0
-RoomFor m first made out = GateRoom first made (length (m (first + made)).0) out
+abbrev pub RoomFor : {A : Type 0} → Make A → Gates → Type 0
+RoomFor m g = GateRoom g (length (m (free_line g)).0)

@@ -1,97 +1,83 @@
--- `step_read` meets its contract: each refusal and either end are the case of `step_of` that the answers lead to.
+-- `step_read` meets its contract: each refusal and either end are the case of `stepped_or` that the answers lead to.
 use native.Mathlib.Omega.{arith}
-use Prim.Native.Nat.{ℕ, ◌+◌, ◌/◌, ◌≤◌, ◌<◌}
-use mathlib.Core.Path.{◌∙◌}
+use Prim.Native.Nat.{ℕ, ◌+◌, ◌/◌, ◌≤◌, min}
+use mathlib.Core.Path.{refl, sym, ap, ◌∙◌}
 use lib.ListN.{length}
 use Rattle.netlist.specs.Netlist.{gate_line}
 use Rattle.netlist.proofs.Lists.{length-gates, length_pairs}
-use Rattle.wiring.proofs.Opened.{Opened, opened, few-contacts, outputs-wired, lamp-wired, bounded}
+use Rattle.wiring.proofs.Opened.{outputs-sound, lamp-sound}
 use Rattle.simulation.proofs.Answers as answers
+use Rattle.simulation.proofs.Whole.{Taken}
+use Rattle.std.proofs.lemmas.Result.{err_from_is_err_and}
+use Rattle.wiring.specs.declared.parts.Parts.{Parts}
+use Rattle.wiring.specs.Inner.Read.{netlist_by}
 use Rattle.run.proofs.Answers.{ready, pairs-within}
-use Rattle.run.proofs.Outcomes.{unread, unanswered, given, part, whole}
-use Rattle.run.proofs.step_read.Goals.{After-value-lamp, else-to-end, then-to-end}
+use Rattle.run.proofs.Outcomes.{unanswered, given, part, whole}
+use Rattle.run.proofs.step_read.Goals.{In_ok-ask, else-to-end, then-to-end}
 use Rattle.run.proofs.step_read.Goals as goal
 
-abbrev n : After-value-lamp → ℕ
-n v = v.args.parts.contacts
+pub returns-in_err-ask : goal.returns-in_err-ask
+returns-in_err-ask c =
+    let a = c.args in
+    let p = err_from_is_err_and c.from_residual.result c.from_residual.ensures.1 in
+    rw (p.1, p.2)
+    (unanswered a.parts.now a.rails.now a.holds.now a.place a.count a.lines.now a.pairs.now c.in_err-ask.field-0.0 c.in_err-ask.ensures)
 
-open! : (v : After-value-lamp) → Opened v.args.netlist.now (n v) v.value-gates.result.now v.value-outputs.result.now v.value-lamp.result.now
-open! v =
-    opened _ v.requires v.if-refusal-ne0.false v.value-gates.ensures
-    v.value-outputs.ensures v.value-lamp.ensures
+-- What a yes to all questions says.
+module _ (c : In_ok-ask) where
+  abbrev p : Parts
+  p = c.args.parts.now
 
-abbrev end : After-value-lamp → ℕ
-end v = gate_line (n v) + length v.value-gates.result.now / 5
+  abbrev end : ℕ
+  end = gate_line p.contacts + length p.gates.now / 5
 
-small : (v : After-value-lamp) → end v < 10629
-small v = omega (arith, few-contacts (open! v), (bounded (open! v)).gates, length-gates v.value-gates.result.now)
+  taken : Taken (netlist_by p) c.args.rails.now c.args.holds.now c.args.place (length c.args.lines.now) (length c.args.pairs.now)
+  taken =
+      let a = c.args in
+      given p a.rails.now a.holds.now a.place a.count a.lines.now a.pairs.now c.requires c.in_ok-ask.ensures
 
-pub returns-then-refusal-ne0 : goal.returns-then-refusal-ne0
-returns-then-refusal-ne0 c =
-    let no = c.refused.ensures in
-    unread _ _ _ _ _ _ _ c.requires no.0 c.if-refusal-ne0.true no.1
+  room : end ≤ length c.args.lines.now
+  room = omega (arith, taken.room, length-gates p.gates.now)
 
-pub overflow_mul-end : goal.overflow_mul-end
-overflow_mul-end c = omega (arith, small (goal.at.overflow_mul-end c).After-value-lamp)
+pub work_out-requires-clause-ready : goal.work_out-requires-clause-ready
+work_out-requires-clause-ready c =
+    let a = c.args in
+    ready a.parts.now a.rails.now a.holds.now a.place (length a.lines.now) (length a.pairs.now) c.requires
+    (taken (goal.at.work_out-requires-clause-ready c).In_ok-ask)
 
-pub overflow_add-end : goal.overflow_add-end
-overflow_add-end c = omega (arith, small (goal.at.overflow_add-end c).After-value-lamp)
+pub work_out-requires-clause-le_from : goal.work_out-requires-clause-le_from
+work_out-requires-clause-le_from c =
+    let t = taken (goal.at.work_out-requires-clause-le_from c).In_ok-ask in
+    let to = c.min-to.ensures in
+    let end = c.line_count-end.ensures in
+    let l = answers.driven c.args.parts.now.contacts c.args.rails.now t.driven in
+    let size = length-gates c.args.parts.now.gates.now in
+    (t.from, omega (arith, t.upto), omega arith)
 
-pub overflow_add-end-2 : goal.overflow_add-end-2
-overflow_add-end-2 c = omega (arith, small (goal.at.overflow_add-end-2 c).After-value-lamp)
+pub show-requires-clause-outputs_value : goal.show-requires-clause-outputs_value
+show-requires-clause-outputs_value c =
+    let here = (goal.at.show-requires-clause-outputs_value c).In_ok-ask in
+    let parts = c.args.parts.now in
+    let kept = c.work_out.auto.lines in (
+      pairs-within (end here) _ parts.outputs.now (omega (arith, room here)) (outputs-sound _ _ _ _ c.requires),
+      pairs-within (end here) _ parts.lamp.now (omega (arith, room here)) (lamp-sound _ _ _ _ c.requires),
+    )
 
-pub ask-no-requires : goal.ask-no-requires
-ask-no-requires c =
-    let b = bounded (open! (goal.at.ask-no-requires c).After-value-lamp) in
-    (few-contacts (open! (goal.at.ask-no-requires c).After-value-lamp), omega (arith, b.few, b.lamp, length_pairs c.value-outputs.result.now, length_pairs c.value-lamp.result.now))
-
-pub returns-then-no-ne0 : goal.returns-then-no-ne0
-returns-then-no-ne0 c =
-    let no = c.refused-then-no-ne0.ensures in
-    unanswered _ _ _ _ _ _ _ (open! (goal.at.returns-then-no-ne0 c).After-value-lamp) c.ask-no.ensures no.0 c.if-no-ne0.true no.1
-
-pub work_out-requires : goal.work_out-requires
-work_out-requires c =
-    let v = (goal.at.work_out-requires c).After-value-lamp in
-    let a = v.args in
-    let t = given a.netlist.now a.rails.now a.holds.now a.place a.count a.lines.now a.pairs.now (open! v) c.ask-no.ensures c.if-no-ne0.false in
-    let to = c.lesser-to.ensures in
-    let l = answers.driven (n v) a.rails.now t.driven in
-    let size = length-gates v.value-gates.result.now in
-    record {
-      ready = ready a.rails.now a.holds.now a.place (length a.lines.now) (length a.pairs.now) (open! v) t;
-      le_from = (t.from, omega (arith, t.upto), omega arith);
-    }
-
-pub show-requires : goal.show-requires
-show-requires c =
-    let v = (goal.at.show-requires c).After-value-lamp in
-    let a = v.args in
-    let t = given a.netlist.now a.rails.now a.holds.now a.place a.count a.lines.now a.pairs.now (open! v) c.ask-no.ensures c.if-no-ne0.false in
-    let kept = c.work_out.auto.lines in
-    let size = length-gates v.value-gates.result.now in
-    let room : end v ≤ length a.lines.now = omega (arith, t.room) in
-    record {
-      outputs_value = (
-        pairs-within (end v) _ v.value-outputs.result.now (omega arith) (outputs-wired (open! v)),
-        pairs-within (end v) _ v.value-lamp.result.now (omega arith) (lamp-wired (open! v)),
-      );
-      lamp_in_bounds = omega (arith, t.paired, length_pairs v.value-outputs.result.now, length_pairs v.value-lamp.result.now);
-    }
-
-pub overflow_cast-result : goal.overflow_cast-result
-overflow_cast-result c = omega (arith, c.lesser-to.ensures, small (goal.at.overflow_cast-result c).After-value-lamp)
+pub show-requires-clause-lamp_in_bounds : goal.show-requires-clause-lamp_in_bounds
+show-requires-clause-lamp_in_bounds c =
+    let parts = c.args.parts.now in
+    omega
+    (arith, (taken (goal.at.show-requires-clause-lamp_in_bounds c).In_ok-ask).paired, length_pairs parts.outputs.now, length_pairs parts.lamp.now)
 
 pub returns : goal.returns
 returns c =
-    let o = open! (goal.at.returns c).After-value-lamp in
-    let asked = c.ask-no.ensures in
-    let yes = c.if-no-ne0.false in
+    let a = c.args in
+    let yes = c.in_ok-ask.ensures in
     let worked = c.work_out.ensures in
+    let to = c.min-to.ensures ∙ ap (min (c.args.place + c.args.count)) c.line_count-end.ensures in
     elim c.if-to-end.branch [
       | then-to-end w ↦
-          whole _ _ _ _ _ _ _ o asked yes c.lesser-to.ensures worked (omega (arith, w.if-to-end.true)) (omega (arith, w.if-to-end.true))
-          (w.pairs-is ∙ w.show.ensures)
+          whole a.parts.now a.rails.now a.holds.now a.place a.count a.lines.now a.pairs.now c.requires yes to worked refl (w.if-to-end.true ∙ c.line_count-end.ensures) (w.pairs-is ∙ w.show.ensures)
       | else-to-end w ↦
-          part _ _ _ _ _ _ _ o asked yes c.lesser-to.ensures worked (omega (arith, w.if-to-end.false)) w.if-to-end.false w.pairs-is
+          part a.parts.now a.rails.now a.holds.now a.place a.count a.lines.now a.pairs.now c.requires yes to worked refl (λ e. w.if-to-end.false (e ∙ sym c.line_count-end.ensures)) w.pairs-is
     ]

@@ -1,52 +1,71 @@
--- `first_like` meets its contract. The loop's invariant: the nodes passed differ from node v in an edge.
-use borrow.Author.Tests.{eq-eqb, ne_eqb}
-use native.Mathlib.Omega.{arith}
-use native.Mathlib.Nat.{add-zero as plus-zero, not-suc-le-zero}
-use Prim.Native.Nat.{ℕ, ◌+◌, ◌*◌}
-use mathlib.Core.Path.{◌≡◌}
-use mathlib.Core.List.{List}
-use mathlib.Core.Bool.{true, false, and-false}
-use lib.ListN.{get_or}
-use Rattle.fields.proofs.Least.{least-is, least-none}
-use Rattle.diagram.specs.Inner.Bytes.{is_like}
-use Rattle.twins.proofs.Pairs.{none_more}
-use Rattle.twins.proofs.first_like.Goals.{then-edges-from+else-edges-from-2, else-edges-from}
+-- `first_like` meets its contract: the chunks of two before the node's own are the edges of the nodes before it.
+use Rattle.std.proofs.Common.{rules, arith, length-take, length-drop, get_or-take, get_or-drop}
+use Prim.Native.Nat.{ℕ, ◌+◌, ◌*◌, ◌-◌, ◌<◌}
+use mathlib.Core.Path.{◌≡◌, ap, ap₂, ◌∙◌}
+use mathlib.Core.Bool.{Bool, ◌&&◌, and-true}
+use mathlib.Core.List.{List, [], ◌∷◌}
+use borrow.Rule.Slice.PartMut.{mid_of}
+use lib.Dec.{eqb}
+use lib.ListN.{get_or, take, length}
+use lib.Pointwise.{pointwise}
+use Rattle.fields.specs.Bounded.{listed}
+use Rattle.diagram.specs.declared.Diagram.{Diagram}
+use Rattle.diagram.specs.Diagram.{width, edge_at}
+use Rattle.diagram.specs.Questions.{alike}
+use Rattle.diagram.proofs.Bytes.{long, zero-edge, one-edge}
+use Rattle.diagram.proofs.Chunks.{first-chunk}
 use Rattle.twins.proofs.first_like.Goals as goal
 
--- Two nodes are alike if both edges are, and differ if one does.
-module _ (edges : List ℕ) (from v u : ℕ) where
-  alike : get_or edges (from + 2 * u) 0 ≡ get_or edges (from + 2 * v) 0 →
-      get_or edges (from + (2 * u + 1)) 0 ≡ get_or edges (from + (2 * v + 1)) 0 → is_like edges from v u ≡ true
-  alike e f = simp (plus-zero, eq-eqb _ _ e, eq-eqb _ _ f)
+-- Two bytes are the same if both are.
+two : (a b : List ℕ) → length a ≡ 2 → length b ≡ 2 → pointwise eqb a b ≡ (eqb (get_or a 0 0) (get_or b 0 0) && eqb (get_or a 1 0) (get_or b 1 0))
+two (x ∷ y ∷ []) (v ∷ w ∷ []) h g = ap (λ (t : Bool). eqb x v && t) (and-true (eqb y w))
+two [] b h g = absurd (omega arith)
+two (x ∷ []) b h g = absurd (omega arith)
+two (x ∷ y ∷ z ∷ a) b h g = absurd (omega arith)
+two (x ∷ y ∷ []) [] h g = absurd (omega arith)
+two (x ∷ y ∷ []) (v ∷ []) h g = absurd (omega arith)
+two (x ∷ y ∷ []) (v ∷ w ∷ z ∷ b) h g = absurd (omega arith)
 
-  differ-zero : (get_or edges (from + 2 * u) 0 ≡ get_or edges (from + 2 * v) 0 → ⊥) → is_like edges from v u ≡ false
-  differ-zero h = simp (plus-zero, ne_eqb _ _ h)
+-- The bytes of node v in its level, and those of the nodes before it.
+module _ (d : Diagram) (l v : ℕ) {xs : List ℕ} (e : xs ≡ listed (edge_at d l) (2 * width d l) 0) (h : v < width d l) where
+  enough : length xs ≡ 2 * width d l
+  enough = long (edge_at d l) _ e
 
-  differ-one : (get_or edges (from + (2 * u + 1)) 0 ≡ get_or edges (from + (2 * v + 1)) 0 → ⊥) → is_like edges from v u ≡ false
-  differ-one h = simp (ne_eqb _ _ h, and-false)
+  abbrev node : List ℕ
+  node = mid_of (2 * v) (2 * v + 2 - 2 * v) xs
 
-pub loop-u-init : goal.loop-u-init
-loop-u-init c = (omega arith, λ i h. absurd (not-suc-le-zero h))
+  node-long : length node ≡ 2
+  node-long = simp (length-take, length-drop) (omega (arith, enough))
 
-pub returns-then-edges-from-2 : goal.returns-then-edges-from-2
-returns-then-edges-from-2 c =
-    let loop = c.loop-u in
-    let a = c.args in
-    let e = alike a.edges.now a.from a.v loop.u c.if-edges-from.true c.if-edges-from-2.true in
-    least-is _ (record { below = c.loop-u-test.true; passes = e; none = loop.invariant.1 })
+  node-at : (k : ℕ) → k < 2 → get_or node k 0 ≡ get_or xs (2 * v + k) 0
+  node-at k g = let room : k < 2 * v + 2 - 2 * v = omega arith in get_or-take (2 * v + 2 - 2 * v) _ k 0 room ∙ get_or-drop (2 * v) xs k 0
 
-pub loop-u-preserved : goal.loop-u-preserved
-loop-u-preserved c =
-    let loop = c.loop-u in
-    let a = c.args in
-    let e : is_like a.edges.now a.from a.v loop.u ≡ false =
-    elim c.if-edges-from.branch [
-      | then-edges-from+else-edges-from-2 w ↦ differ-one a.edges.now a.from a.v loop.u w.if-edges-from-2.false
-      | else-edges-from w ↦ differ-zero a.edges.now a.from a.v loop.u w.if-edges-from.false
-    ] in
-    (omega arith, none_more _ loop.invariant.1 e)
+  abbrev before : List ℕ
+  before = take (2 * v) xs
+
+  before-long : length before ≡ 2 * v
+  before-long = simp length-take (omega (arith, enough))
+
+  pub tests : (k : ℕ) → k < v →
+      (eqb (get_or before (2 * k) 0) (get_or node 0 0) && eqb (get_or before (2 * k + 1) 0) (get_or node 1 0)) ≡ alike d l k v
+  tests k g =
+      let zero : 2 * k < 2 * v = omega arith in
+      let one : 2 * k + 1 < 2 * v = omega arith in
+      ap₂ ◌&&◌
+      (ap₂ eqb (get_or-take (2 * v) xs (2 * k) 0 zero ∙ zero-edge d l k e (omega arith)) (node-at 0 (omega arith) ∙ ap (λ (i : ℕ). get_or xs i 0) (omega arith) ∙ zero-edge d l v e h))
+      (ap₂ eqb (get_or-take (2 * v) xs (2 * k + 1) 0 one ∙ one-edge d l k e (omega arith)) (node-at 1 (omega arith) ∙ one-edge d l v e h))
+
+pub slice_bounds-node-end : goal.slice_bounds-node-end
+slice_bounds-node-end c = omega (arith, long (edge_at c.args.d.now c.args.level) _ c.level-edges.ensures)
 
 pub returns : goal.returns
 returns c =
-    let inv = c.loop-u.invariant in
-    least-none _ (λ i h. inv.1 i (omega arith))
+    let a = c.args in
+    let d = a.d.now in
+    let edges = c.level-edges.ensures in
+    let own = node d a.level a.v edges c.requires.2 in
+    first-chunk (before d a.level a.v edges c.requires.2) _ c.chunks_exact.ensures.rest c.chunks_exact.ensures.size c.chunks_exact.ensures.runs _ _
+    (λ a r f h. search rules) (λ v w. eqb v (get_or own 0 0) && eqb w (get_or own 1 0))
+    (λ x b e h. let q : b ≡ pointwise eqb x.now own = search rules in q ∙ two x.now own e (node-long d a.level a.v edges c.requires.2))
+    a.v (before-long d a.level a.v edges c.requires.2) (λ u. alike d a.level u a.v) (tests d a.level a.v edges c.requires.2)
+    c.position.result c.position.ensures.runs

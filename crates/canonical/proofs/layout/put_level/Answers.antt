@@ -1,46 +1,57 @@
 -- `layout::put_level` meets its contract: the mentions are the halves of the level's blocks.
 use native.Mathlib.Omega.{arith}
-use Prim.Native.Nat.{suc, ◌*◌, ◌≤◌}
-use mathlib.Core.Path.{refl, ap, ◌∙◌}
-use lib.ListN.{length}
-use lib.Pow.{pow_pos}
-use Rattle.canonical.specs.Inner.Blocks.{width_of}
+use Prim.Native.Nat.{ℕ, ◌+◌, ◌*◌, ◌/◌, ◌%◌, ◌^◌, ◌<◌}
+use mathlib.Core.Path.{◌≡◌, ap, sym, ◌∙◌}
+use lib.ListN.{length, get_or, take}
+use lib.Seq.{sets, length-take-le, get_or-take}
+use mathlib.Core.List.{List}
+use Rattle.std.proofs.Common.{is_some, rules}
+use Rattle.std.proofs.lemmas.List.{take_at}
+use Rattle.fields.specs.Fields.{field_bytes}
+use Rattle.canonical.specs.Inner.Blocks.{is_few}
 use Rattle.canonical.proofs.Halves.{halves-blocks, next_level}
 use Rattle.canonical.proofs.Prefixes.{level-put}
+use Rattle.canonical.proofs.layout.put_level.Goals.{After-starts}
 use Rattle.canonical.proofs.layout.put_level.Goals as goal
 
-pub split-requires : goal.split-requires
-split-requires c =
-    let left = c.args.left in
-    let pre = c.requires in (
-      pre.0,
-      pre.1,
-      pre.2.listed,
-      refl,
-      λ i l. omega (arith, (pre.2.each i l).within, pow_pos (suc left), pre.3),
-    )
+-- The halves that are mentioned.
+long : (c : After-starts) → let mentions = take (2 * length c.starts.result.now) c.halves-halves.result in
+    length mentions ≡ 2 * length c.args.level.now
+long c =
+    let n = ap length c.starts.ensures.are in
+    let size : length c.halves-halves.result ≡ 16 = search rules in
+    length-take-le (2 * length c.starts.result.now) c.halves-halves.result (omega (arith, n, size, c.starts.ensures.few)) ∙ omega (arith, n)
+
+split : (c : After-starts) → let mentions = take (2 * length c.starts.result.now) c.halves-halves.result in
+    (k : ℕ) → k < 2 * length c.args.level.now → get_or mentions k 0 ≡ get_or c.args.level.now (k / 2) 0 + k % 2 * 2 ^ c.args.truths.left
+split c k l =
+    get_or-take (2 * length c.starts.result.now) c.halves-halves.result k 0 (omega (arith, ap length c.starts.ensures.are)) ∙ c.halves-halves.ensures k l
 
 pub enter-requires : goal.enter-requires
 enter-requires c =
-    let a = c.args in
-    let pre = c.requires in
-    let mentions = c.split.new.mentions in
-    let long : 2 * a.width ≤ length mentions = omega (arith, c.split.auto, pre.1) in (
-      omega (arith, pre.0),
-      halves-blocks a.truths.now a.left a.width a.firsts.now mentions pre.2 c.split.ensures long,
-      pre.4,
-      omega (arith, pre.1),
-      omega (arith, c.put_head.auto, pre.5),
+    let t = c.args.truths in
+    let start = (goal.at.enter-requires c).After-starts in (
+      halves-blocks t.words.now t.left c.args.level.now _ c.requires.2 (long start) (split start),
+      length-take-le _ _ (omega (arith, ap length c.starts.ensures.are, c.starts.ensures.few)) ∙ sym (long start ∙ ap (◌*◌ 2) (sym (ap length c.starts.ensures.are))),
     )
 
-pub returns : goal.returns
-returns c =
-    let a = c.args in
-    let pre = c.requires in
-    let mentions = c.split.new.mentions in
-    let halves = c.split.ensures in record {
-      value = c.enter.ensures.value
-          ∙ ap (width_of a.left) (next_level a.truths.now a.left a.width a.firsts.now mentions pre.2 halves);
-      put = λ few. level-put a.truths.now a.left a.width a.firsts.now mentions pre.2 halves a.at pre.1
-          c.put_head.ensures (c.enter.ensures.numbered few);
-    }
+pub returns-in_err-next-clause-value : goal.returns-in_err-next-clause-value
+returns-in_err-next-clause-value c =
+    let t = c.args.truths in
+    let start = (goal.at.returns-in_err-next-clause-value c).After-starts in
+    ap is_some c.from_residual.ensures ∙ c.in_err-next.ensures.value
+    ∙ ap (is_few t.left) (next_level t.words.now t.left c.args.level.now _ c.requires.2 (long start) (split start))
+
+pub returns-clause-value : goal.returns-clause-value
+returns-clause-value c =
+    let t = c.args.truths in
+    let start = (goal.at.returns-clause-value c).After-starts in
+    c.in_ok-next.ensures.value
+    ∙ ap (is_few t.left) (next_level t.words.now t.left c.args.level.now _ c.requires.2 (long start) (split start))
+
+pub returns-clause-put : goal.returns-clause-put
+returns-clause-put c =
+    let t = c.args.truths in
+    let start = (goal.at.returns-clause-put c).After-starts in
+    level-put t.words.now t.left c.args.level.now _ c.requires.2 (long start) (split start) c.args.at c.in_ok-next.ensures.numbered
+    (c.put_field.ensures ∙ ap (λ (v : List ℕ). sets c.args.file.now c.args.at (field_bytes (record { tag = 3; value = v }))) (take_at c.enter.new.numbers _ _ (c.enter.auto.numbers ∙ length-take-le _ _ (omega (arith, ap length c.starts.ensures.are, c.starts.ensures.few)))))

@@ -1,30 +1,27 @@
 -- `layout::put_outputs` meets its contract: the fields before the levels', one after the other.
-use native.Mathlib.Omega.{arith}
 use mathlib.Core.Path.{ap, ◌∙◌}
-use lib.ListN.{length-set}
-use Rattle.canonical.specs.Inner.Blocks.{width_of}
+use Prim.Native.Nat.{ℕ}
+use mathlib.Core.List.{List}
+use lib.Seq.{sets, length-take-le}
+use Rattle.std.proofs.Common.{is_some}
+use Rattle.std.proofs.lemmas.List.{take_at}
+use Rattle.fields.specs.Fields.{field_bytes}
+use Rattle.canonical.specs.Inner.Blocks.{is_few}
 use Rattle.canonical.proofs.Prefixes.{head-level, head-put}
 use Rattle.canonical.proofs.layout.put_outputs.Goals as goal
 
-pub put_head-requires-2 : goal.put_head-requires-2
-put_head-requires-2 c =
-    let pre = c.requires in
-    (simp length-set (omega (arith, c.put_head.auto, pre.4)), omega (arith, pre.1))
+pub returns-in_err-level-clause-value : goal.returns-in_err-level-clause-value
+returns-in_err-level-clause-value c =
+    let t = c.args.truths in
+    ap is_some c.from_residual.ensures ∙ c.in_err-level.ensures.value ∙ ap (is_few t.left) (head-level t.words.now t.left c.args.outputs.now)
 
-pub enter-requires : goal.enter-requires
-enter-requires c =
-    let pre = c.requires in (
-      pre.0,
-      pre.2,
-      pre.3,
-      omega (arith, pre.1),
-      omega (arith, c.put_head-2.auto, length-set c.put_head.new.file 3 c.args.n, c.put_head.auto, pre.4),
-    )
+pub returns-clause-value : goal.returns-clause-value
+returns-clause-value c =
+    let t = c.args.truths in
+    c.in_ok-level.ensures.value ∙ ap (is_few t.left) (head-level t.words.now t.left c.args.outputs.now)
 
-pub returns : goal.returns
-returns c =
-    let a = c.args in record {
-      value = c.enter.ensures.value ∙ ap (width_of a.n) (head-level a.truths.now a.n a.m a.outputs.now);
-      put = λ h. head-put a.truths.now a.n a.m a.outputs.now c.requires.1 c.put_head.ensures c.put_head-2.ensures
-          (c.enter.ensures.numbered h);
-    }
+pub returns-clause-put : goal.returns-clause-put
+returns-clause-put c =
+    let t = c.args.truths in
+    head-put t.words.now t.left c.args.outputs.now c.put_field.ensures
+    (c.put_field-2.ensures ∙ ap (λ (v : List ℕ). sets c.put_field.new.file 4 (field_bytes (record { tag = 2; value = v }))) (take_at c.enter.new.numbers _ _ (c.enter.auto.numbers ∙ length-take-le _ _ c.requires.0))) c.in_ok-level.ensures.numbered

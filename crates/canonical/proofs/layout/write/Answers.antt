@@ -5,59 +5,55 @@ use mathlib.Core.Path.{◌≡◌, sym, ap, ◌∙◌}
 use lib.ListN.{length, replicate}
 use lib.Seq.{sets, length-take-le}
 use Rattle.files.proofs.Buffers.{enough}
-use Rattle.canonical.specs.declared.layout.Laid.TheVariants.{Whole}
+use Rattle.std.proofs.Common.{Some}
 use Rattle.canonical.specs.Inner.Blocks.{mention_at}
 use Rattle.canonical.specs.Service.{laid_of}
-use Rattle.canonical.proofs.Outcomes.{whole_is, laid-bytes, tabled-wide, tabled-short, tabled-whole}
-use Rattle.canonical.proofs.layout.write.Goals.{In-Enough, In-Whole}
+use Rattle.canonical.proofs.Outcomes.{laid-bytes, tabled-wide, tabled-short, tabled-whole}
+use Rattle.canonical.proofs.layout.write.Goals.{In-Enough, In-Some}
 use Rattle.canonical.proofs.layout.write.Goals as goal
 
-laid : (c : In-Whole) → let a = c.args in
-    laid_of a.n a.m (mention_at a.truths.now a.n a.outputs.now) ≡ Whole c.in-Whole.length
-laid c = sym c.lay.ensures.value ∙ c.in-Whole.is
+laid : (c : In-Some) → let a = c.args in
+    laid_of a.n (length a.outputs.now) (mention_at a.words.now a.n a.outputs.now) ≡ Some c.in-Some.length
+laid c = sym c.lay.ensures.value ∙ c.in-Some.is
 
-fits : (c : In-Whole) → c.in-Whole.length ≤ 243
-fits c =
-    let a = c.args in
-    let whole = whole_is a.n a.m (mention_at a.truths.now a.n a.outputs.now) (laid c) in
-    omega (arith, whole.1, (c.lay.ensures.outputs_len_bound whole.0).0)
+fits : (c : In-Some) → c.in-Some.length ≤ 243
+fits c = c.in-Some.ensures.written.0
 
-long : (c : In-Whole) → c.in-Whole.length ≤ length c.lay.new.file
+long : (c : In-Some) → c.in-Some.length ≤ length c.lay.new.file
 long c = omega (arith, fits c, c.lay.auto)
 
-room : (c : In-Enough) → c.in-Whole.length ≤ length c.args.table.now
+room : (c : In-Enough) → c.in-Some.length ≤ length c.args.table.now
 room c = enough _ _ (sym c.ask_room.ensures ∙ c.in-Enough.is)
 
 pub returns-in_default : goal.returns-in_default
 returns-in_default c =
     let a = c.args in
-    tabled-wide a.n a.m (mention_at a.truths.now a.n a.outputs.now) a.table.now
-    (sym c.lay.ensures.value ∙ c.in_default.is) c.refused.ensures
+    tabled-wide a.n (length a.outputs.now) (mention_at a.words.now a.n a.outputs.now) a.table.now
+    (sym c.lay.ensures.value ∙ c.in_default.is)
 
 pub returns-in_default-ask_room : goal.returns-in_default-ask_room
 returns-in_default-ask_room c =
     let a = c.args in
-    tabled-short a.n a.m (mention_at a.truths.now a.n a.outputs.now) a.table.now (laid (goal.at.returns-in_default-ask_room c).In-Whole)
-    (sym c.ask_room.ensures ∙ c.in_default-ask_room.is) c.refused-in_default-ask_room.ensures
+    tabled-short a.n (length a.outputs.now) (mention_at a.words.now a.n a.outputs.now) a.table.now (laid (goal.at.returns-in_default-ask_room c).In-Some)
+    (sym c.ask_room.ensures ∙ c.in_default-ask_room.is)
 
 pub slice_bounds-file-end : goal.slice_bounds-file-end
-slice_bounds-file-end c = long (goal.at.slice_bounds-file-end c).In-Whole
+slice_bounds-file-end c = long (goal.at.slice_bounds-file-end c).In-Some
 
 pub slice_bounds-copy-end : goal.slice_bounds-copy-end
-slice_bounds-copy-end c = sym (length-take-le _ _ (long (goal.at.slice_bounds-copy-end c).In-Whole))
+slice_bounds-copy-end c = sym (length-take-le _ _ (long (goal.at.slice_bounds-copy-end c).In-Some))
 
 pub copy-requires : goal.copy-requires
 copy-requires c =
-    omega (arith, length-take-le c.in-Whole.length c.lay.new.file (long (goal.at.copy-requires c).In-Whole), room (goal.at.copy-requires c).In-Enough)
+    omega (arith, length-take-le c.in-Some.length c.lay.new.file (long (goal.at.copy-requires c).In-Some), room (goal.at.copy-requires c).In-Enough)
 
 pub overflow_cast-result : goal.overflow_cast-result
-overflow_cast-result c = omega (arith, fits (goal.at.overflow_cast-result c).In-Whole)
+overflow_cast-result c = omega (arith, fits (goal.at.overflow_cast-result c).In-Some)
 
 pub returns : goal.returns
 returns c =
     let a = c.args in
-    let f = mention_at a.truths.now a.n a.outputs.now in
-    let made = c.lay.ensures.outputs_len_bound (whole_is a.n a.m f (laid (goal.at.returns c).In-Whole)).0 in
-    tabled-whole a.n a.m f a.table.now (laid (goal.at.returns c).In-Whole) (sym c.ask_room.ensures ∙ c.in-Enough.is)
+    let f = mention_at a.words.now a.n a.outputs.now in
+    tabled-whole a.n (length a.outputs.now) f a.table.now (laid (goal.at.returns c).In-Some) (sym c.ask_room.ensures ∙ c.in-Enough.is)
     (c.copy.ensures ∙ ap (sets a.table.now 0)
-    (laid-bytes a.n a.m f (replicate 243 0) (laid (goal.at.returns c).In-Whole) made.0 made.1))
+    (laid-bytes a.n (length a.outputs.now) f (replicate 243 0) (laid (goal.at.returns c).In-Some) (fits (goal.at.returns c).In-Some) c.in-Some.ensures.written.1))

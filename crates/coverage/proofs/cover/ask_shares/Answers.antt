@@ -55,7 +55,7 @@ pub cube_of-cube-requires : goal.cube_of-cube-requires
 cube_of-cube-requires c =
     let limits = lies-limited c.args.file.now c.requires.0 in
     let counts = lies-counts c.args.file.now c.requires.0 in
-    (omega (arith, limits.contacts.1, counts.0), c.requires.1, omega (arith, rule-size (goal.at.cube_of-cube-requires c).After-value-rule))
+    (omega (arith, limits.contacts.1, counts.0), omega (arith, rule-size (goal.at.cube_of-cube-requires c).After-value-rule))
 
 pub bounds-rule-n : goal.bounds-rule-n
 bounds-rule-n c = omega (arith, rule-size (goal.at.bounds-rule-n c).After-value-rule)

@@ -1,5 +1,5 @@
 -- `sound::in_turn` meets its contract. The loop's invariant: the mentions passed are in turn, and `next` is what they bring.
-use Prim.Native.Nat.{ℕ, ◌+◌, ◌-◌, ◌≤◌}
+use Prim.Native.Nat.{ℕ, ◌≤◌}
 use mathlib.Core.Path.{◌≡◌}
 use mathlib.Core.Bool.{true}
 use mathlib.Core.List.{List}
@@ -9,11 +9,8 @@ use Rattle.diagram.specs.Questions.{brought}
 use Rattle.diagram.proofs.Turns.{is_turn}
 use Rattle.diagram.proofs.sound.in_turn.Given as goal
 
-abbrev pub byte_at : List ℕ → ℕ → ℕ → ℕ
-byte_at bytes from k = get_or bytes (from + k) 0
+abbrev pub byte_at : List ℕ → ℕ → ℕ
+byte_at bytes k = get_or bytes k 0
 
-abbrev pub invariant-loop-k : goal.invariant-loop-k
-invariant-loop-k l = (l.k ≤ l.count) × (l.next ≤ l.k) × (l.next ≡ brought (byte_at l.bytes l.from) l.k) × (all l.k (is_turn (byte_at l.bytes l.from)) ≡ true)
-
-abbrev pub decreases-loop-k : goal.decreases-loop-k
-decreases-loop-k l = l.count - l.k
+abbrev pub invariant-loop-byte : goal.invariant-loop-byte
+invariant-loop-byte l = (l.next ≤ 256) × (l.next ≡ brought (byte_at l.bytes) l.byte-index) × (all l.byte-index (is_turn (byte_at l.bytes)) ≡ true)

@@ -93,11 +93,11 @@ pub put_gates-reached-requires : goal.put_gates-reached-requires
 put_gates-reached-requires c =
     let loop = (goal.at.put_gates-reached-requires c).At-loop-on_pin in
     let a = loop.args in
-    let (low, high, bound) = stop-of loop c.lesser-stop.result c.lesser-stop.ensures in
+    let (low, high, bound) = stop-of loop c.min-stop.result c.min-stop.ensures in
     let inv = loop.loop-on_pin.invariant in
     let ready = ready_of loop (length loop.loop-on_pin.lines) inv.4 in
     let free =
-    pins-free a.gates.now a.rails.now a.holds.now loop.loop-on_pin.lines ready loop.loop-on_pin.at c.lesser-stop.result
+    pins-free a.gates.now a.rails.now a.holds.now loop.loop-on_pin.lines ready loop.loop-on_pin.at c.min-stop.result
     loop.loop-on_pin.cursor.pin inv.2.pins bound low (omega (arith, pin-from loop)) in
     let p = loop.requires.rails_bound in
     record { ready = (ready, inv.2.lines, free); rails_bound = (omega (arith, p.0, inv.0), low, omega (arith, p.2)) }
@@ -105,7 +105,7 @@ put_gates-reached-requires c =
 pub returns-then-stop-to : goal.returns-then-stop-to
 returns-then-stop-to c =
     let a = c.args in
-    worked (goal.at.returns-then-stop-to c).At-loop-on_pin c.lesser-stop.result c.lesser-stop.ensures c.put_gates-reached.ensures.lines_after
+    worked (goal.at.returns-then-stop-to c).At-loop-on_pin c.min-stop.result c.min-stop.ensures c.put_gates-reached.ensures.lines_after
     ∙ ap (λ (k : ℕ). worked_over (holds_of a.holds.now) a.rails.now a.gates.now a.from k a.lines.now)
     c.if-stop-to.true
 
@@ -115,11 +115,11 @@ put_pinned-cursor-requires c =
     let loop = (goal.at.put_pinned-cursor-requires c).At-loop-on_pin in
     let a = loop.args in
     let inv = loop.loop-on_pin.invariant in
-    let (low, high, bound) = stop-of loop c.lesser-stop.result c.lesser-stop.ensures in
+    let (low, high, bound) = stop-of loop c.min-stop.result c.min-stop.ensures in
     let ready = ready_of loop _ (gates.auto.lines ∙ inv.4) in
     let pins =
     awaits-on a.gates.now a.rails.now a.holds.now loop.loop-on_pin.lines (ready_of loop (length loop.loop-on_pin.lines) inv.4)
-    loop.loop-on_pin.at c.lesser-stop.result loop.loop-on_pin.cursor.pin inv.2.pins bound low (omega (arith, pin-from loop)) in
+    loop.loop-on_pin.at c.min-stop.result loop.loop-on_pin.cursor.pin inv.2.pins bound low (omega (arith, pin-from loop)) in
     let p = loop.requires.rails_bound in
     record {
       ready = (ready, record { lines = gates.ensures.awaits; pins = pins });
@@ -128,11 +128,11 @@ put_pinned-cursor-requires c =
 
 pub overflow_add-at : goal.overflow_add-at
 overflow_add-at c =
-    omega (arith, (stop-of (goal.at.overflow_add-at c).At-loop-on_pin c.lesser-stop.result c.lesser-stop.ensures).1, small_of (goal.at.overflow_add-at c).At-loop-on_pin)
+    omega (arith, (stop-of (goal.at.overflow_add-at c).At-loop-on_pin c.min-stop.result c.min-stop.ensures).1, small_of (goal.at.overflow_add-at c).At-loop-on_pin)
 
 pub loop-on_pin-smaller : goal.loop-on_pin-smaller
 loop-on_pin-smaller c =
-    let (low, high, _) = stop-of (goal.at.loop-on_pin-smaller c).At-loop-on_pin c.lesser-stop.result c.lesser-stop.ensures in
+    let (low, high, _) = stop-of (goal.at.loop-on_pin-smaller c).At-loop-on_pin c.min-stop.result c.min-stop.ensures in
     omega (arith, low, high)
 
 pub loop-on_pin-preserved : goal.loop-on_pin-preserved
@@ -142,8 +142,8 @@ loop-on_pin-preserved c =
     let loop = (goal.at.loop-on_pin-preserved c).At-loop-on_pin in
     let a = loop.args in
     let inv = loop.loop-on_pin.invariant in
-    let (low, high, _) = stop-of loop c.lesser-stop.result c.lesser-stop.ensures in
-    let stop = c.lesser-stop.result in
+    let (low, high, _) = stop-of loop c.min-stop.result c.min-stop.ensures in
+    let stop = c.min-stop.result in
     let p = loop.requires in
     let below : stop + 1 ≤ end_of loop = omega (arith, c.if-stop-to.false) in (
       omega (arith, inv.0),
@@ -151,6 +151,6 @@ loop-on_pin-preserved c =
       pinned.ensures.walks,
       further-put (holds_of a.holds.now) a.rails.now a.gates.now a.from stop (stop + 1) (omega (arith, p.rails_bound.0))
           (omega (arith, inv.0)) (omega arith) (omega (arith, p.rails_bound.2)) a.lines.now (omega (arith, p.rails_bound.2, p.ready.0.fits))
-          (worked loop stop c.lesser-stop.ensures gates.ensures.lines_after) pinned.ensures.lines_after,
+          (worked loop stop c.min-stop.ensures gates.ensures.lines_after) pinned.ensures.lines_after,
       pinned.auto.lines ∙ gates.auto.lines ∙ inv.4,
     )

@@ -71,8 +71,8 @@ rails-of start stop is e =
 pub put_rails-next_gate-requires : goal.put_rails-next_gate-requires
 put_rails-next_gate-requires c =
     let start = (goal.at.put_rails-next_gate-requires c).Start in
-    let is : Stops start c.greater-stop.result = omega (arith, c.greater-stop.ensures, c.lesser.ensures) in
-    let stop = stop-of start c.greater-stop.result is in
+    let is : Stops start c.max-stop.result = omega (arith, c.max-stop.ensures, c.min.ensures) in
+    let stop = stop-of start c.max-stop.result is in
     let p = start.requires in
     record {
       sorted = (sorted_of start, c.seek-next.ensures);
@@ -83,8 +83,8 @@ pub put_all-requires : goal.put_all-requires
 put_all-requires c =
     let rails = c.put_rails-next_gate in
     let start = (goal.at.put_all-requires c).Start in
-    let is : Stops start c.greater-stop.result = omega (arith, c.greater-stop.ensures, c.lesser.ensures) in
-    let stop = stop-of start c.greater-stop.result is in
+    let is : Stops start c.max-stop.result = omega (arith, c.max-stop.ensures, c.min.ensures) in
+    let stop = stop-of start c.max-stop.result is in
     record {
       ready = (ready_of start _ (rails.auto.lines ∙ long start), rails.ensures.awaits);
       rails_bound = (stop.3 c.if-stop-to.true, stop.1, start.requires.le_from.2);
@@ -94,21 +94,21 @@ pub returns-then-stop-to : goal.returns-then-stop-to
 returns-then-stop-to c =
     let rails = c.put_rails-next_gate in
     let start = (goal.at.returns-then-stop-to c).Start in
-    let is : Stops start c.greater-stop.result = omega (arith, c.greater-stop.ensures, c.lesser.ensures) in
-    let stop = stop-of start c.greater-stop.result is in
+    let is : Stops start c.max-stop.result = omega (arith, c.max-stop.ensures, c.min.ensures) in
+    let stop = stop-of start c.max-stop.result is in
     let a = start.args in
     let p = start.requires in
     all_of start
-    (further-put (holds_of a.holds.now) a.rails.now a.gates.now a.from c.greater-stop.result a.to p.le_from.0 stop.0 stop.1
-    p.le_from.2 (begun start) (omega (arith, long start, p.le_from.2, p.ready.fits)) (rails-of start c.greater-stop.result is rails.ensures.lines_after)
+    (further-put (holds_of a.holds.now) a.rails.now a.gates.now a.from c.max-stop.result a.to p.le_from.0 stop.0 stop.1
+    p.le_from.2 (begun start) (omega (arith, long start, p.le_from.2, p.ready.fits)) (rails-of start c.max-stop.result is rails.ensures.lines_after)
     c.put_all.ensures)
 
 pub returns-else-stop-to : goal.returns-else-stop-to
 returns-else-stop-to c =
     let start = (goal.at.returns-else-stop-to c).Start in
-    let is : Stops start c.greater-stop.result = omega (arith, c.greater-stop.ensures, c.lesser.ensures) in
+    let is : Stops start c.max-stop.result = omega (arith, c.max-stop.ensures, c.min.ensures) in
     let a = c.args in
-    let end : c.greater-stop.result ≡ a.to = omega (arith, (stop-of start c.greater-stop.result is).1, c.if-stop-to.false) in
+    let end : c.max-stop.result ≡ a.to = omega (arith, (stop-of start c.max-stop.result is).1, c.if-stop-to.false) in
     all_of start
-    (rails-of start c.greater-stop.result is c.put_rails-next_gate.ensures.lines_after
+    (rails-of start c.max-stop.result is c.put_rails-next_gate.ensures.lines_after
     ∙ ap (λ (k : ℕ). worked_over (holds_of a.holds.now) a.rails.now a.gates.now a.from k (begun start)) end)

@@ -1,26 +1,17 @@
--- `write::copy` meets its contract. The loop's invariant: the bytes passed are copied.
-use native.Mathlib.Omega.{arith}
-use mathlib.Core.Path.{refl, ap, ◌∙◌}
-use lib.ListN.{length-set}
-use lib.Seq.{sets, take_all}
-use Rattle.files.proofs.WrittenLemmas.{copied_more}
+-- `write::copy` meets its contract: the part that is written stands between what lies before it and what lies behind it.
+use native.Mathlib.Nat.{add-sub_cancel_left}
+use Prim.Native.Nat.{◌+◌}
+use mathlib.Core.Path.{sym, ap, ◌∙◌}
+use mathlib.Core.List.{List, ◌++◌, append_assoc}
+use lib.ListN.{length, take, drop}
+use lib.Seq.{sets-eq, drop-drop}
 use Rattle.files.proofs.write.copy.Goals as goal
-
-pub loop-i-init : goal.loop-i-init
-loop-i-init c = (omega arith, refl, refl)
-
-pub bounds-file-at : goal.bounds-file-at
-bounds-file-at c = omega arith
-
-pub loop-i-preserved : goal.loop-i-preserved
-loop-i-preserved c =
-    let loop = c in
-    let args = loop.args in
-    let more = copied_more args.file.now args.at loop.loop-i.i args.value.now 0 (omega arith) loop.loop-i.invariant.2 in
-    (omega arith, simp length-set loop.loop-i.invariant.1, more)
 
 pub returns : goal.returns
 returns c =
-    let last = c in
-    let args = last.args in
-    last.loop-i.invariant.2 ∙ ap (sets args.file.now args.at) (take_all last.loop-i.i args.value.now (omega arith))
+    let a = c.args in
+    let n = length a.value.now in
+    let before = take a.at a.file.now in
+    rw (add-sub_cancel_left a.at n, c.copy_from_slice.ensures.after)
+    (ap (λ (l : List _). before ++ (a.value.now ++ l)) (drop-drop n a.at a.file.now)
+    ∙ sym (append_assoc before a.value.now (drop (a.at + n) a.file.now)) ∙ sym (sets-eq a.value.now a.file.now a.at c.requires))

@@ -4,14 +4,13 @@ use Prim.Native.Nat.{ℕ, ◌+◌, ◌-◌, ◌/◌}
 use native.Mathlib.Omega.{arith}
 use mathlib.Core.Path.{◌≡◌, sym, ap, ◌∙◌}
 use mathlib.Core.List.{List, [], ◌++◌}
-use lib.ListN.{length, get_or, take, drop}
+use lib.ListN.{length, take, drop}
 use Rattle.netlist.specs.declared.Hold.{Hold}
 use Rattle.netlist.specs.Netlist.{pairs_of, gate_line, hold_at, file_with, net_of}
 use native.Mathlib.Nat.{add-zero}
 use Rattle.netlist.proofs.Written.{length-file}
 use Rattle.files.specs.Room.{over}
 use Rattle.faults.specs.Betrayal.{stuck_at}
-use Rattle.batches.specs.Inner.Batches.{hold_of}
 use Rattle.search.specs.Inner.Found.{found_in}
 use Rattle.stuck.specs.Service.{found_at}
 use Rattle.probe.proofs.Findings.{read_behind, length-lines, betrayed-at, answer-seen, answer-hidden}
@@ -19,11 +18,10 @@ use Rattle.probe.proofs.service.find.Goals.{After-search}
 use Rattle.probe.proofs.service.find.Goals as goal
 
 -- The search's answer.
-searched : (c : After-search) → c.search.result ≡ found_in (net_of c.args.n c.args.gates.now c.args.pairs.now) (hold_at c.args.hold.now 0)
+searched : (c : After-search) → c.search.result ≡ found_in (net_of c.args.board.contacts c.args.board.gates.now c.args.board.pairs.now) (hold_at c.args.hold.now 0)
 searched c =
-    let a = c.args in
-    c.search.ensures
-    ∙ ap (λ (line : ℕ). found_in (net_of a.n a.gates.now a.pairs.now) (hold_of line (get_or a.hold.now 2 0))) c.number_at-line.ensures
+    let b = c.args.board in
+    c.search.ensures ∙ ap (found_in (net_of b.contacts b.gates.now b.pairs.now)) c.hold_at.ensures
 
 -- The bytes behind a file are the line values that were written there.
 module _ (n : ℕ) (gates pairs : List ℕ) (h : Hold) (input : ℕ) where
@@ -49,18 +47,18 @@ name_output-requires c =
     let a = c.args in
     let h = hold_at a.hold.now 0 in
     let w = c.write_at-start in
-    let shown = part a.n a.gates.now a.pairs.now h c.in-At.input w.result a.buffer.now w.ensures.value w.ensures.buffer_after in
-    let count = length-lines a.n a.gates.now a.pairs.now h c.in-At.input in record {
+    let shown = part a.board.contacts a.board.gates.now a.board.pairs.now h c.in-Some.input w.result a.buffer.now w.ensures.value w.ensures.buffer_after in
+    let count = length-lines a.board.contacts a.board.gates.now a.board.pairs.now h c.in-Some.input in record {
       pairs_value = (rw (shown, count) c.requires.searchable.paired, c.requires.writable.bytes.1);
-      lines_value = rw shown (betrayed-at (net_of a.n a.gates.now a.pairs.now) h c.in-At.input
-          (sym c.in-At.is ∙ searched (goal.at.name_output-requires c).After-search));
+      lines_value = rw shown (betrayed-at (net_of a.board.contacts a.board.gates.now a.board.pairs.now) h c.in-Some.input
+          (sym c.in-Some.is ∙ searched (goal.at.name_output-requires c).After-search));
     }
 
 pub returns : goal.returns
 returns c =
     let a = c.args in
     let w = c.write_at-start in
-    let shown = part a.n a.gates.now a.pairs.now (hold_at a.hold.now 0) c.in-At.input w.result a.buffer.now w.ensures.value w.ensures.buffer_after in
-    answer-seen _ _ _ a.buffer.now c.in-At.input (sym c.in-At.is ∙ searched (goal.at.returns c).After-search)
-    (c.name_output.ensures ∙ ap (found_at (pairs_of a.pairs.now) c.in-At.input) shown)
+    let shown = part a.board.contacts a.board.gates.now a.board.pairs.now (hold_at a.hold.now 0) c.in-Some.input w.result a.buffer.now w.ensures.value w.ensures.buffer_after in
+    answer-seen _ _ _ a.buffer.now c.in-Some.input (sym c.in-Some.is ∙ searched (goal.at.returns c).After-search)
+    (c.name_output.ensures ∙ ap (found_at (pairs_of a.board.pairs.now) c.in-Some.input) shown)
     c.write_at-start.ensures.buffer_after

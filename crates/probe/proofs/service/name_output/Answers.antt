@@ -1,7 +1,9 @@
 -- `service::name_output` meets its contract: the lowest output, and its true line's value.
-use Prim.Native.Nat.{◌/◌, ◌<◌}
+use Prim.Native.Nat.{ℕ, ◌/◌, ◌<◌}
+use mathlib.Core.Path.{ap, ◌∙◌}
 use native.Mathlib.Omega.{arith}
-use lib.ListN.{length}
+use lib.ListN.{length, get_or}
+use Rattle.netlist.specs.declared.Pair.{Pair}
 use Rattle.netlist.specs.Netlist.{pairs_of}
 use Rattle.netlist.proofs.Lists.{length_pairs}
 use Rattle.wiring.proofs.Tests.{pairs-at}
@@ -18,18 +20,20 @@ output c =
     let first = least_first (no_code (pairs_of pairs) c.args.lines.now) (length (pairs_of pairs)) c.requires.lines_value in
     omega (arith, c.lowest-output.ensures, length_pairs pairs, first.below)
 
-pub value_at-on-requires : goal.value_at-on-requires
-value_at-on-requires c =
-    let pairs = c.args.pairs.now in
-    let inside = output (goal.at.value_at-on-requires c).After-lowest-output in
-    let on = pairs-at (length c.args.lines.now) pairs c.requires.pairs_value.0 c.lowest-output.result inside in
-    (omega arith, omega arith)
+pub pair_at-pair-requires : goal.pair_at-pair-requires
+pair_at-pair-requires c = let inside = output (goal.at.pair_at-pair-requires c).After-lowest-output in omega arith
+
+pub bounds-lines-from : goal.bounds-lines-from
+bounds-lines-from c =
+    let inside = output (goal.at.bounds-lines-from c).After-lowest-output in
+    let on = pairs-at (length c.args.lines.now) c.args.pairs.now c.requires.pairs_value.0 c.lowest-output.result inside in
+    rw (c.from.ensures ∙ ap (λ (p : Pair). p.on) c.pair_at-pair.ensures) on.on
 
 pub returns : goal.returns
 returns c =
-    found-by c.args.pairs.now c.args.lines.now c.args.input c.lowest-output.result c.value_at-on.result
-    c.way_of-way.result
+    found-by c.args.pairs.now c.args.lines.now c.args.input c.lowest-output.result _
+    c.way_of.result
     (output (goal.at.returns c).After-lowest-output)
     c.lowest-output.ensures
-    c.value_at-on.ensures
-    c.way_of-way.ensures
+    (ap (λ (i : ℕ). get_or c.args.lines.now i 0) (c.from.ensures ∙ ap (λ (p : Pair). p.on) c.pair_at-pair.ensures))
+    c.way_of.ensures

@@ -87,14 +87,11 @@ returns-in_default-ask_room c =
     (sym c.ask_room.ensures ∙ c.in_default-ask_room.is)
     c.refused-in_default-ask_room.ensures
 
-pub slice_bounds-find-end-2 : goal.slice_bounds-find-end-2
-slice_bounds-find-end-2 c = sym (length-take-le _ _ (omega arith))
-
 pub slice_bounds-pairs-end : goal.slice_bounds-pairs-end
 slice_bounds-pairs-end c = omega (arith, (sized c.requires.0).outputs)
 
-pub slice_bounds-find-end-3 : goal.slice_bounds-find-end-3
-slice_bounds-find-end-3 c = sym (length-take-le _ _ (omega (arith, (sized c.requires.0).outputs)))
+pub slice_bounds-board-end-3 : goal.slice_bounds-board-end-3
+slice_bounds-board-end-3 c = sym (length-take-le _ _ (omega (arith, (sized c.requires.0).outputs)))
 
 pub find-requires : goal.find-requires
 find-requires c =

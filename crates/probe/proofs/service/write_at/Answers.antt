@@ -15,8 +15,8 @@ returns c =
     let args = c.args in
     let kept : length c.put_file.new.file ≡ length args.buffer.now = c.put_file.auto.file in record {
       value = refl;
-      buffer_after = written_behind (file_with args.n args.gates.now args.pairs.now [])
-          (stuck_at (net_of args.n args.gates.now args.pairs.now) (hold_at args.hold.now 0) args.input) args.buffer.now _ _
-          (length-file args.n args.gates.now args.pairs.now [] ∙ add-zero _) refl (omega arith) kept c.put_file.ensures
-          (rw (lines_same args.n args.gates.now args.pairs.now (hold_at args.hold.now 0) args.input) at c.show_at.ensures);
+      buffer_after = written_behind (file_with args.board.contacts args.board.gates.now args.board.pairs.now [])
+          (stuck_at (net_of args.board.contacts args.board.gates.now args.board.pairs.now) (hold_at args.hold.now 0) args.input) args.buffer.now _ _
+          (length-file args.board.contacts args.board.gates.now args.board.pairs.now [] ∙ add-zero _) refl (omega arith) kept c.put_file.ensures
+          (rw (lines_same args.board.contacts args.board.gates.now args.board.pairs.now (hold_at args.hold.now 0) args.input) at c.show_at.ensures);
     }

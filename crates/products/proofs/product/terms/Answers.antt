@@ -1,56 +1,57 @@
--- `product::terms` meets its contract. The loop's invariant: the terms of the middle nodes passed are made and their lines collected.
+-- `product::terms` meets its contract. The loop's invariant: the terms of the middle nodes passed are made and their lines listed.
 use native.Mathlib.Omega.{arith}
-use Prim.Native.Nat.{◌≤◌}
+use lib.ListN.{get_or}
 use native.Mathlib.Numerals.{add-one}
-use mathlib.Core.Path.{refl}
-use lib.ListN.{length}
-use Rattle.products.proofs.WrittenTerms.{turned_none, turned_more, turned-room, turned-all}
+use mathlib.Core.Path.{◌≡◌, sym, ap, ◌∙◌}
+use mathlib.Core.List.{[], ◌∷◌, ◌++◌}
+use Rattle.rules.specs.declared.Entry.{Entry}
+use Rattle.rules.specs.Blocks.{lines_in}
+use Rattle.products.proofs.Terms.{turned_none, turned_more, turned-room, no-line}
 use Rattle.products.proofs.Listing.{passed-next, passed-last}
+use Rattle.products.proofs.product.terms.Goals.{in-Line, in_default}
 use Rattle.products.proofs.product.terms.Goals as goal
 
-pub loop-i-init : goal.loop-i-init
-loop-i-init c =
-    (omega arith, refl, refl, record { w = 0; rest = c.requires.listed; turned = turned_none _ _ _ _ })
+pub loop-w-init : goal.loop-w-init
+loop-w-init c = record { w = 0; rest = c.requires.listed; turned = rw c.new-lines.ensures (turned_none _ _ _ _) }
 
-pub cell-factor-requires : goal.cell-factor-requires
-cell-factor-requires c =
-    let next = passed-next (omega (arith, c.requires.middle_bound, c.loop-i.invariant.1)) _ _ c.loop-i-test.true c.loop-i.invariant.3 in
-    omega (arith, c.requires.middle_bound, next.below)
+pub offset_bounds-left-w : goal.offset_bounds-left-w
+offset_bounds-left-w c =
+    let next = passed-next _ _ c.loop-w-test.true c.loop-w.invariant in
+    omega (arith, next.below)
 
-pub cell-requires : goal.cell-requires
-cell-requires c =
-    let next = passed-next (omega (arith, c.requires.middle_bound, c.loop-i.invariant.1)) _ _ c.loop-i-test.true c.loop-i.invariant.3 in
-    omega (arith, c.requires.middle_bound, next.below)
+pub bounds-left-w : goal.bounds-left-w
+bounds-left-w c =
+    let next = passed-next _ _ c.loop-w-test.true c.loop-w.invariant in
+    omega (arith, next.below)
 
-pub term-joined-requires : goal.term-joined-requires
-term-joined-requires c =
-    let next = passed-next (omega (arith, c.requires.middle_bound, c.loop-i.invariant.1)) _ _ c.loop-i-test.true c.loop-i.invariant.3 in
-    rw (c.cell-factor.ensures, c.cell.ensures)
-    (turned-room next.turned _ c.requires.room_for next.below c.loop-i.invariant.2)
+pub offset_bounds-right-w : goal.offset_bounds-right-w
+offset_bounds-right-w c =
+    let next = passed-next _ _ c.loop-w-test.true c.loop-w.invariant in
+    omega (arith, next.below)
 
-pub collect-count-requires : goal.collect-count-requires
-collect-count-requires c =
-    let next = passed-next (omega (arith, c.requires.middle_bound, c.loop-i.invariant.1)) _ _ c.loop-i-test.true c.loop-i.invariant.3 in
-    omega (arith, c.requires.middle_bound, next.below, next.turned.few, c.loop-i.invariant.1)
+pub bounds-right-w : goal.bounds-right-w
+bounds-right-w c =
+    let next = passed-next _ _ c.loop-w-test.true c.loop-w.invariant in
+    omega (arith, next.below)
 
-pub loop-i-preserved : goal.loop-i-preserved
-loop-i-preserved c =
-    let next = passed-next (omega (arith, c.requires.middle_bound, c.loop-i.invariant.1)) _ _ c.loop-i-test.true c.loop-i.invariant.3 in (
-      omega arith,
-      omega (arith, c.collect-count.auto, c.loop-i.invariant),
-      omega (arith, c.term-joined.auto, c.loop-i.invariant),
-      record {
-        w = _;
-        rest = rw (← add-one _) at next.rest;
-        turned =
-            turned_more _ _ _ _ (omega (arith, next.below, c.loop-i.invariant, c.requires)) next.turned
-            (rw (c.cell-factor.ensures, c.cell.ensures) at c.term-joined.ensures)
-            c.collect-count.ensures.0 c.collect-count.ensures.1;
-      },
-    )
+pub term-requires : goal.term-requires
+term-requires c =
+    let next = passed-next _ _ c.loop-w-test.true c.loop-w.invariant in
+    turned-room next.turned _ c.requires.room_for next.below
+
+pub push-requires : goal.push-requires
+push-requires c =
+    let next = passed-next _ _ c.loop-w-test.true c.loop-w.invariant in
+    (omega arith, omega (arith, next.below, next.turned.few))
+
+pub loop-w-preserved : goal.loop-w-preserved
+loop-w-preserved c =
+    let next = passed-next _ _ c.loop-w-test.true c.loop-w.invariant in
+    let added : c.match-term.lines ≡ c.loop-w.lines ++ lines_in (c.term.result ∷ []) =
+    elim c.match-term.branch [ in-Line w ↦ w.lines-is ∙ w.push.ensures ∙ ap (λ (e : Entry). c.loop-w.lines ++ lines_in (e ∷ [])) (sym w.in-Line.is) | in_default w ↦ w.lines-is ∙ no-line _ _ w.in_default.not-Line ] in
+    record { w = _; rest = rw (← add-one (get_or c.args.nodes.now c.loop-w.w-index 0)) at next.rest; turned = turned_more _ _ _ _ next.turned c.term.ensures added }
 
 pub returns : goal.returns
 returns c =
-    let room : c.args.middle ≤ length c.loop-i.lines = omega (arith, c.requires.middle_bound, c.loop-i.invariant.1) in
-    let all = turned-all (passed-last room c.loop-i.i c.args.used.now (omega arith) c.loop-i.invariant.3) _ refl room in
-    record { grown = all.0; collected = all.1 }
+    let all = passed-last c.loop-w.w-index c.args.nodes.now (omega arith) c.loop-w.invariant in
+    record { grown = all.written; lines = sym all.found }

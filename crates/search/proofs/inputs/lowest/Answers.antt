@@ -1,63 +1,56 @@
--- `inputs::lowest` meets its contract. The loop's invariant: no output before j agrees, so j is an output.
-use borrow.Author.Count.{below_none, below_more}
-use borrow.Author.Tests.{eq-eqb, ne_eqb}
-use Prim.Native.Nat.{ℕ, ◌+◌}
+-- `inputs::lowest` meets its contract: the first output that `find` finds is the lowest, and some output is found.
+use borrow.Author.Tests.{tests}
+use Prim.Native.Nat.{ℕ, ◌/◌, ◌≤◌, ◌<◌}
 use native.Mathlib.Omega.{arith}
-use mathlib.Core.Path.{◌≡◌, sym, ap₂, ◌∙◌}
-use mathlib.Core.Bool.{Bool, false}
+use mathlib.Core.Path.{◌≡◌, refl, sym, ap, ◌∙◌}
+use mathlib.Core.Bool.{Bool, true, false, true≢false}
 use mathlib.Core.List.{List}
-use lib.Dec.{eqb}
 use lib.ListN.{length}
-use Rattle.netlist.specs.Netlist.{pairs_of, pair_at}
+use Rattle.std.proofs.Common.{rules, Option, Some, None}
+use Rattle.std.proofs.lemmas.Iterator.{first_from_Range}
+use Rattle.std.specs.Option.{MatchOption}
+use Rattle.netlist.specs.Netlist.{pairs_of}
 use Rattle.netlist.proofs.Lists.{length_pairs}
-use Rattle.netlist.proofs.Sound.{PairIn}
-use Rattle.wiring.proofs.Tests.{pairs-at}
-use Rattle.faults.specs.Betrayal.{no_code}
-use Rattle.search.proofs.Agree.{agree_at}
-use Rattle.fields.proofs.Least.{least-is, within}
-use Rattle.search.proofs.inputs.lowest.Goals.{After-value_at-in-loop-j, At-loop-j}
+use Rattle.faults.specs.Betrayal.{no_code, some_no_code, lowest_no_code}
+use Rattle.fields.proofs.Least.{least-is, least_first}
+use Rattle.search.proofs.inputs.lowest.Goals.{After-find}
 use Rattle.search.proofs.inputs.lowest.Goals as goal
 
 -- Whether an output agrees.
 abbrev passes : List ℕ → List ℕ → ℕ → Bool
 passes pairs lines = no_code (pairs_of pairs) lines
 
-pub loop-j-init : goal.loop-j-init
-loop-j-init c =
-    let none = below_none (λ (i : ℕ). passes c.args.pairs.now c.args.lines.now i ≡ false) in
-    (omega (arith, within _ _ 0 c.requires.lines_value none, length_pairs c.args.pairs.now), none)
+-- What `find` finds is the lowest, since there is one.
+found-is : (pairs lines : List ℕ) (r : Option ℕ) → some_no_code (pairs_of pairs) lines ≡ true →
+    MatchOption r ((k : ℕ) → 0 ≤ k → k < length pairs / 4 → passes pairs lines k ≡ false)
+    (λ i.
+    (0 ≤ i) × (i < length pairs / 4) × (passes pairs lines i ≡ true) × ((k : ℕ) → 0 ≤ k → k < i → passes pairs lines k ≡ false)) →
+    r ≡ Some (lowest_no_code (pairs_of pairs) lines)
+found-is pairs lines None some none =
+    let first = least_first (passes pairs lines) (length (pairs_of pairs)) some in
+    absurd (true≢false (sym first.passes ∙ none _ (omega arith) (omega (arith, first.below, length_pairs pairs))))
+found-is pairs lines (Some i) some (_, below, yes!, none) =
+    ap Some
+    (least-is (passes pairs lines)
+    (record { below = omega (arith, length_pairs pairs); passes = yes!; none = λ k l. none k (omega arith) l }))
 
--- The output's lines are in range.
-low : (c : At-loop-j) →
-    PairIn (length c.args.lines.now) (pair_at c.args.pairs.now c.loop-j.j)
-low c =
-    pairs-at (length c.args.lines.now) c.args.pairs.now c.requires.pairs_value.0 c.loop-j.j (omega arith)
+found : (c : After-find) → c.find.result ≡ Some (lowest_no_code (pairs_of c.args.pairs.now) c.args.lines.now)
+found c =
+    let tell = passes c.args.pairs.now c.args.lines.now in
+    found-is c.args.pairs.now c.args.lines.now c.find.result c.requires.lines
+    (first_from_Range _ _ _ c.find.result (λ i. tell i ≡ true) (λ i. tell i ≡ false) c.find.ensures.ran (λ x q k. search (rules, tests))
+    (λ x q k. search (rules, tests)))
 
-pub value_at-requires : goal.value_at-requires
-value_at-requires c = let on = low (goal.at.value_at-requires c).At-loop-j in (omega arith, omega arith)
+pub unwrap-requires : goal.unwrap-requires
+unwrap-requires c = rw (found (goal.at.unwrap-requires c).After-find) refl
 
-pub value_at-requires-in-loop-j : goal.value_at-requires-in-loop-j
-value_at-requires-in-loop-j c = let on = low (goal.at.value_at-requires-in-loop-j c).At-loop-j in (omega arith, omega arith)
+pub overflow_cast-result : goal.overflow_cast-result
+overflow_cast-result c =
+    let pairs = c.args.pairs.now in
+    let first = least_first (passes pairs c.args.lines.now) (length (pairs_of pairs)) c.requires.lines in
+    let e : c.unwrap.result ≡ lowest_no_code (pairs_of pairs) c.args.lines.now =
+    cc (found (goal.at.overflow_cast-result c).After-find, c.unwrap.ensures) in
+    rw e (omega (arith, first.below, length_pairs pairs))
 
--- The test tells whether output j agrees.
-tells : (c : After-value_at-in-loop-j) →
-    passes c.args.pairs.now c.args.lines.now c.loop-j.j ≡ eqb c.value_at.result c.value_at-in-loop-j.result
-tells c =
-    agree_at c.args.pairs.now c.args.lines.now c.loop-j.j (omega arith)
-    ∙ sym (ap₂ eqb c.value_at.ensures c.value_at-in-loop-j.ensures)
-
-pub returns-then-value_at : goal.returns-then-value_at
-returns-then-value_at c =
-    least-is (passes c.args.pairs.now c.args.lines.now)
-    (record {
-      below = omega (arith, length_pairs c.args.pairs.now);
-      passes = tells (goal.at.returns-then-value_at c).After-value_at-in-loop-j ∙ eq-eqb _ _ c.if-value_at.true;
-      none = c.loop-j.invariant.1;
-    })
-
-pub loop-j-preserved : goal.loop-j-preserved
-loop-j-preserved c =
-    let none =
-    below_more (λ (i : ℕ). passes c.args.pairs.now c.args.lines.now i ≡ false) c.loop-j.j c.loop-j.invariant.1
-    (tells (goal.at.loop-j-preserved c).After-value_at-in-loop-j ∙ ne_eqb _ _ c.if-value_at.false) in
-    (omega (arith, within _ _ (c.loop-j.j + 1) c.requires.lines_value none, length_pairs c.args.pairs.now), none)
+pub returns : goal.returns
+returns c = cc (found (goal.at.returns c).After-find, c.unwrap.ensures)

@@ -4,7 +4,7 @@ use mathlib.Core.Path.{sym, ap, ◌∙◌}
 use mathlib.Core.Bool.{true, false}
 use mathlib.Core.List.{List}
 use lib.ListN.{length}
-use Rattle.table.specs.declared.fit.Outputs.TheVariants.{Listed}
+use Rattle.std.specs.Prelude.{Some}
 use Rattle.table.proofs.Fits.{outputs-by}
 use Rattle.table.proofs.fit.count_outputs.Goals as goal
 
@@ -13,5 +13,5 @@ returns-then-not-has_parts c = outputs-by _ false (sym c.has_parts.ensures ∙ c
 
 pub returns : goal.returns
 returns c =
-    ap (λ (v : List ℕ). Listed (length v)) c.value.ensures
+    ap (λ (v : List ℕ). Some (length v)) c.value.ensures
     ∙ outputs-by _ true (sym c.has_parts.ensures ∙ c.if-not-has_parts.false)

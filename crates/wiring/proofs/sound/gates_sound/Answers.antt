@@ -1,47 +1,39 @@
 -- `sound::gates_sound` meets its contract. The loop's invariant: each gate passed is sound.
-use borrow.Author.Tests.{le-leb, lt-leb}
 use native.Mathlib.Omega.{arith}
-use Prim.Native.Nat.{◌+◌, ◌*◌, ◌/◌}
-use mathlib.Core.Path.{◌≡◌, refl, sym, ◌∙◌}
-use mathlib.Core.Bool.{◌&&◌}
-use lib.Dec.{ltb}
-use lib.ListN.{length}
+use Prim.Native.Nat.{ℕ, ◌+◌, ◌/◌, ◌<◌}
+use mathlib.Core.Path.{◌≡◌, sym, ap, ◌∙◌}
+use mathlib.Core.List.{List, []}
+use lib.ListN.{length, get_or}
 use Rattle.fields.proofs.Bounded.{all_none, all_more, all-not}
 use Rattle.netlist.specs.Netlist.{gate_at}
-use Rattle.wiring.proofs.sound.gates_sound.Goals.{After-both_below}
+use Rattle.netlist.proofs.Chunks.{gate-chunk}
+use Rattle.wiring.specs.Questions.{is_gate}
+use Rattle.wiring.proofs.sound.gates_sound.Goals.{After-gate_sound}
 use Rattle.wiring.proofs.sound.gates_sound.Goals as goal
 
 pub loop-g-init : goal.loop-g-init
-loop-g-init c = (refl, omega arith, all_none _)
+loop-g-init c = all_none _
 
-pub returns-then-gates-g-gt1 : goal.returns-then-gates-g-gt1
-returns-then-gates-g-gt1 c = sym (all-not _ _ c.loop-g.g (omega arith) (simp (lt-leb _ _ c.if-gates-g-gt1.true)))
-
--- What the gate's two sources answer.
-below : (c : After-both_below) →
-    let line = c.args.first + c.loop-g.g in
-    let gate = gate_at c.args.gates.now c.loop-g.g in
-    c.both_below.result ≡ (ltb gate.left line && ltb gate.right line)
-below c =
+-- What the gate's test says.
+here : (c : After-gate_sound) → is_gate (c.args.first + c.loop-g.g) (gate_at c.args.gates.now c.loop-g.g) ≡ c.gate_sound.result
+here c =
     let g = c.loop-g.g in
-    let right : 5 * g + 1 + 2 ≡ 5 * g + 3 = omega arith in
-    rw right at c.both_below.ensures
+    let line = c.args.first + g in
+    let within : g < length c.args.gates.now / 5 = omega (arith, c.as_chunks.ensures.front_len) in
+    sym (c.gate_sound.ensures ∙ ap (λ (gates : List (List ℕ)). is_gate line (gate_at (get_or gates g []) 0)) c.as_chunks.ensures.front
+    ∙ ap (is_gate line) (gate-chunk c.args.gates.now g [] within))
 
-pub returns-then-not-both_below : goal.returns-then-not-both_below
-returns-then-not-both_below c =
-    sym (all-not _ _ c.loop-g.g (omega arith)
-    (simp (le-leb _ _ c.if-gates-g-gt1.false) (sym (below (goal.at.returns-then-not-both_below c).After-both_below) ∙ c.if-not-both_below.true)))
+pub returns-then-not-gate_sound : goal.returns-then-not-gate_sound
+returns-then-not-gate_sound c =
+    let test = here (goal.at.returns-then-not-gate_sound c).After-gate_sound in
+    sym (all-not _ _ c.loop-g.g (omega (arith, c.as_chunks.ensures.front_len)) (test ∙ c.if-not-gate_sound.true))
 
 pub loop-g-preserved : goal.loop-g-preserved
 loop-g-preserved c =
-    let inv = c.loop-g.invariant in (
-      inv.0,
-      omega arith,
-      all_more _ _ inv.2 (simp (le-leb _ _ c.if-gates-g-gt1.false) (sym (below (goal.at.loop-g-preserved c).After-both_below) ∙ c.if-not-both_below.false)),
-    )
+    let test = here (goal.at.loop-g-preserved c).After-gate_sound in
+    all_more _ _ c.loop-g.invariant (test ∙ c.if-not-gate_sound.false)
 
 pub returns : goal.returns
 returns c =
-    let inv = c.loop-g.invariant in
-    let done : c.loop-g.g ≡ length c.args.gates.now / 5 = omega arith in
-    sym (rw done at inv.2)
+    let done : c.loop-g.g ≡ length c.args.gates.now / 5 = omega (arith, c.as_chunks.ensures.front_len) in
+    sym (rw done at c.loop-g.invariant)

@@ -1,16 +1,11 @@
 -- `sound::gates_sound` meets its contract. The loop's invariant: each gate passed is sound.
-use Prim.Native.Nat.{◌+◌, ◌-◌, ◌/◌, ◌≤◌}
+use Prim.Native.Nat.{◌+◌}
 use mathlib.Core.Path.{◌≡◌}
 use mathlib.Core.Bool.{true}
-use lib.ListN.{length}
 use Rattle.fields.specs.Bounded.{all}
 use Rattle.netlist.specs.Netlist.{gate_at}
 use Rattle.wiring.specs.Questions.{is_gate}
 use Rattle.wiring.proofs.sound.gates_sound.Given as goal
 
 abbrev pub invariant-loop-g : goal.invariant-loop-g
-invariant-loop-g l =
-    (l.g-end ≡ length l.gates / 5) × (l.g ≤ l.g-end) × (all l.g (λ k. is_gate (l.first + k) (gate_at l.gates k)) ≡ true)
-
-abbrev pub decreases-loop-g : goal.decreases-loop-g
-decreases-loop-g l = l.g-end - l.g
+invariant-loop-g l = all l.g (λ k. is_gate (l.first + k) (gate_at l.gates k)) ≡ true

@@ -1,25 +1,30 @@
--- `sound::pairs_sound` meets its contract. The loop's invariant: each output passed has its lines in the netlist.
+-- `sound::pairs_sound` meets its contract, by what the iterator's `all` says.
+use mathlib.Core.Path.{◌≡◌, sym, ap, ◌∙◌}
+use mathlib.Core.Bool.{true, false}
+use mathlib.Core.List.{List, []}
+use Prim.Native.Nat.{ℕ, ◌<◌}
 use native.Mathlib.Omega.{arith}
-use Prim.Native.Nat.{◌/◌}
-use mathlib.Core.Path.{◌≡◌, refl, sym, ◌∙◌}
-use lib.ListN.{length}
-use Rattle.fields.proofs.Bounded.{all_none, all_more, all-not}
+use lib.ListN.{length, get_or}
+use Rattle.std.proofs.Common.{rules}
+use Rattle.std.proofs.lemmas.Iterator.{cases_from_all, YieldsList-from_slice}
+use borrow.Author.Tests.{tests}
+use Rattle.fields.specs.Bounded.{all}
+use Rattle.netlist.specs.Netlist.{pair_at}
+use Rattle.netlist.proofs.Chunks.{pair-chunk, all-cases}
+use Rattle.wiring.specs.Questions.{is_pair}
 use Rattle.wiring.proofs.sound.pairs_sound.Goals as goal
-
-pub loop-j-init : goal.loop-j-init
-loop-j-init c = (refl, omega arith, all_none _)
-
-pub returns-then-not-both_below : goal.returns-then-not-both_below
-returns-then-not-both_below c =
-    sym (all-not _ _ c.loop-j.j (omega arith) (sym c.both_below.ensures ∙ c.if-not-both_below.true))
-
-pub loop-j-preserved : goal.loop-j-preserved
-loop-j-preserved c =
-    let inv = c.loop-j.invariant in
-    (inv.0, omega arith, all_more _ _ inv.2 (sym c.both_below.ensures ∙ c.if-not-both_below.false))
 
 pub returns : goal.returns
 returns c =
-    let inv = c.loop-j.invariant in
-    let done : c.loop-j.j ≡ length c.args.pairs.now / 4 = omega arith in
-    sym (rw done at inv.2)
+    let pairs = c.args.pairs.now in
+    let lines = c.args.lines in
+    let chunks = c.as_chunks.result.0.now in
+    let test = λ (j : ℕ). is_pair lines (pair_at pairs j) in
+    let its : (i : ℕ) → i < length chunks → is_pair lines (pair_at (get_or chunks i []) 0) ≡ test i = λ i l.
+    ap (λ (pairs : List (List ℕ)). is_pair lines (pair_at (get_or pairs i []) 0)) c.as_chunks.ensures.front
+    ∙ ap (is_pair lines) (pair-chunk pairs i [] (omega (arith, c.as_chunks.ensures.front_len))) in
+    let Yes = λ (x : List ℕ). is_pair lines (pair_at x 0) ≡ true in
+    let No = λ (x : List ℕ). is_pair lines (pair_at x 0) ≡ false in
+    all-cases Yes No chunks [] test (λ i l y. sym (its i l) ∙ y) (λ i l n. sym (its i l) ∙ n) c.all.result
+    (cases_from_all _ _ _ Yes No c.all.ensures.ran (YieldsList-from_slice chunks cc) (λ x q k. search (rules, tests)) (λ x q k. search (rules, tests)))
+    ∙ ap (λ (n : ℕ). all n test) c.as_chunks.ensures.front_len

@@ -1,0 +1,65 @@
+-- `Truths::number` meets its contract.
+use native.Mathlib.Omega.{arith}
+use Prim.Native.Nat.{◌<◌}
+use mathlib.Core.Path.{◌≡◌, refl, sym, ap, ◌∙◌}
+use lib.ListN.{length}
+use Rattle.std.proofs.Common.{is_some, None}
+use Rattle.functions.specs.Functions.{place}
+use Rattle.canonical.specs.Inner.Blocks.{level_at, mention_at, blocks_at}
+use Rattle.canonical.proofs.Searching.{found-at, found_none}
+use Rattle.canonical.proofs.Numbering.{number, numbered-none, numbered_more, none-entered, found_number, entered-old, entered-new, entered-nine, few-not}
+use Rattle.canonical.proofs.blocks.Truths.number.Goals.{After-find, in-Some, in-None+in_ok-number-in-None}
+use Rattle.canonical.proofs.blocks.Truths.number.Goals as goal
+
+-- A mention that is not found comes after the functions listed.
+new : (c : After-find) → c.find.result ≡ None → let s = c.args.self in
+    length c.loop-k.level ≡ place (blocks_at s.words.now s.left c.loop-k.level) (mention_at s.words.now s.left c.args.mentions.now c.loop-k.k)
+new c e =
+    let s = c.args.self in
+    found_none s.words.now s.left (mention_at s.words.now s.left c.args.mentions.now c.loop-k.k) c.loop-k.level
+    (rw c.starts.ensures.are at (sym c.find.ensures ∙ e))
+
+pub loop-k-init : goal.loop-k-init
+loop-k-init c =
+    let s = c.args.self in
+    record {
+      entered = rw c.new-level.ensures (none-entered s.words.now s.left c.args.mentions.now);
+      numbers-are = numbered-none (number s.words.now s.left c.args.mentions.now);
+    }
+
+pub returns-in_err-number-in-None-clause-value : goal.returns-in_err-number-in-None-clause-value
+returns-in_err-number-in-None-clause-value c =
+    let s = c.args.self in
+    let ms = c.args.mentions.now in
+    ap is_some c.from_residual.ensures
+    ∙ few-not s.left (level_at s.words.now s.left ms) c.requires.0
+    (entered-nine s.words.now s.left ms c.loop-k.invariant.entered _ (new (goal.at.returns-in_err-number-in-None-clause-value c).After-find c.in-None.is)
+    refl c.in_err-number-in-None.ensures c.loop-k-test.true)
+
+pub loop-k-preserved : goal.loop-k-preserved
+loop-k-preserved c =
+    let s = c.args.self in
+    let ms = c.args.mentions.now in
+    let loop = c.loop-k in
+    let e = loop.invariant.entered in
+    let ws = s.words.now in
+    let found = c.match-find.number in
+    let inside = c.loop-k-test.true in
+    let room : loop.k < length loop.numbers = omega (arith, c.requires.2) in
+    let mores = numbered_more (number ws s.left ms) loop.numbers loop.k found room loop.invariant.numbers-are in
+    elim c.match-find.branch [
+      | in-Some w ↦
+          let f = found-at ws s.left (mention_at ws s.left ms loop.k) loop.level w.in-Some.number
+          (rw c.starts.ensures.are at (sym c.find.ensures ∙ w.in-Some.is)) in
+          record {
+            entered = rw w.level-is (entered-old ws s.left ms e _ f.1 f.0);
+            numbers-are = mores (w.number-is ∙ found_number ws s.left ms e _ f.1 c.requires.0 inside);
+          }
+      | in-None+in_ok-number-in-None w ↦
+          let at = new (goal.at.loop-k-preserved c).After-find w.in-None.is in
+          let pushed = w.in_ok-number-in-None.ensures in
+          record {
+            entered = rw (w.level-is, pushed.2) (entered-new ws s.left ms e _ at refl pushed.1 (c.requires.1 loop.k 0 inside));
+            numbers-are = mores (w.number-is ∙ pushed.0 ∙ found_number ws s.left ms e _ at c.requires.0 inside);
+          }
+    ]
