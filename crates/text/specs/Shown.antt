@@ -1,8 +1,15 @@
--- What bytes are shown as.
-use Rattle.std.specs.Prelude.{ℕ, cond, List, [], ◌++◌, ◌==◌, ◌^◌, ◌-◌, leb, length, take, map, codes, decimal, false}
+-- What services return, and bytes, as a program shows them.
+use Rattle.std.specs.Prelude.{ℕ, Result, cond, List, [], ◌++◌, ◌==◌, ◌^◌, ◌-◌, leb, length, take, map, codes, decimal, false}
 use Rattle.std.specs.Fmt.{digits, padded_integral, format_spec}
 use Rattle.std.specs.List.{flat_map}
+use Rattle.files.specs.declared.refusal.Refusal.{Refusal}
+use Rattle.files.specs.Refusals.{number_in}
+use Rattle.files.specs.Room.{length_in}
 use Rattle.text.specs.Spelling.{sign_of}
+
+-- The number of what a service returned, and the value under a name.
+abbrev pub outcome_text : Result ℕ Refusal → List ℕ → List ℕ
+outcome_text r name = codes ": " ++ (decimal (number_in r) ++ (codes ", " ++ (name ++ (codes " " ++ decimal (length_in r)))))
 
 -- A byte behind a space, in two hexadecimal digits.
 abbrev pub byte_text : ℕ → List ℕ

@@ -1,8 +1,38 @@
-// Bytes as a program shows them.
+// What services return, and bytes, as a program shows them.
 ghost use Rattle.std.specs.Prelude.{◌≡◌, ◌==◌, length, filter};
+ghost use Rattle.files.specs.Refusals.{number_in};
 
 use crate::spelling;
+use files::Refusal;
 use std::fmt;
+
+// The number of what a service returned, 0 where it did not refuse.
+pub fn refusal<T>(returned: &Result<T, Refusal>) -> u32
+    ensures { result ≡ number_in returned.now }
+{
+    match returned {
+        Ok(_) => 0,
+        Err(refusal) => refusal.number(),
+    }
+}
+
+// The number of what a service returned, and the value under a name, 0 where there is none.
+#[derive(Clone, Copy, Drop)]
+pub struct Outcome<'a>(pub Result<u32, Refusal>, pub &'a str);
+
+impl<'a> fmt::Display for Outcome<'a> {
+    ghost use Rattle.std.specs.Prelude.{Some};
+    ghost use Rattle.text.specs.Shown.{outcome_text};
+
+    ghost output = { λ s. Some (outcome_text s.0 s.1.now) };
+
+    fn fmt<W: fmt::Write>(&self, f: &mut fmt::Formatter<W>) -> fmt::Result {
+        let number = refusal(&self.0);
+        let name = self.1;
+        let value = self.0.unwrap_or(0);
+        write!(f, ": {number}, {name} {value}")
+    }
+}
 
 // Bytes in hexadecimal, each after a space: the first sixteen, and `..` where there are more.
 #[derive(Clone, Copy, Drop)]
