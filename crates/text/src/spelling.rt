@@ -1,7 +1,8 @@
 // The parts of a case. Bytes are spelt with one sign each: 0 to 9, a to z for 10 to 35, A to Z and the six signs behind Z for 36
 // to 67, the three signs behind z for 127 to 129, @ for 255. Numbers are written with digits. Signs below 0, the space among them,
 // stand for nothing, but a stroke ends a part.
-ghost use Rattle.std.specs.Prelude.{◌+◌, ◌≤◌, ◌<◌, length, IfOk};
+ghost use Rattle.std.specs.Prelude.{◌+◌, ◌≤◌, ◌<◌, length, ◌≡◌, IfOk};
+ghost use Rattle.text.specs.Spelling.{sign_of};
 
 use std::io;
 use std::io::Write;
@@ -58,7 +59,9 @@ fn byte_of(sign: u8) -> Option<u8> {
 }
 
 // The sign that stands for a byte, or a question mark if none does.
-pub fn sign_of(byte: u8) -> u8 {
+pub fn sign_of(byte: u8) -> u8
+    ensures { result ≡ sign_of byte }
+{
     match byte {
         0..=9 => b'0' + byte,
         10..=35 => b'a' + (byte - 10),
