@@ -3,7 +3,7 @@ use native.Mathlib.Omega.{arith}
 use mathlib.Core.Path.{sym, ◌∙◌}
 use Rattle.fields.specs.Fields.{fields_of}
 use Rattle.fields.proofs.Steps.{items-next, ended}
-use Rattle.table.proofs.Decoded.{decoded-none, decoded-one, length-widths, length-edges, none_left, none-fits}
+use Rattle.table.proofs.Decoded.{decoded-none, decoded-one, none_left, none-fits}
 use Rattle.table.proofs.Fits.{skipped}
 use Rattle.table.proofs.decode.lay_levels.Goals as goal
 
@@ -16,12 +16,6 @@ pub returns-in_default : goal.returns-in_default
 returns-in_default c =
     let left = none_left c.loop-level.invariant.1 (ended _ _ _ (sym c.next.ensures) c.in_default.not-Next) in
     record { widths_after = left.0; edges_after = left.1 }
-
-pub bounds-widths-level : goal.bounds-widths-level
-bounds-widths-level c = omega (arith, length-widths c.loop-level.invariant.1)
-
-pub put-requires : goal.put-requires
-put-requires c = omega (arith, length-edges c.loop-level.invariant.1)
 
 pub loop-level-preserved : goal.loop-level-preserved
 loop-level-preserved c =
