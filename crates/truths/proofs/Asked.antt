@@ -1,19 +1,19 @@
 -- What a yes to question 16 says of a file.
 use Prim.Native.Nat.{ℕ, ◌<◌}
 use native.Mathlib.Omega.{arith}
-use mathlib.Core.Path.{◌≡◌, refl, sym, ap}
+use mathlib.Core.Path.{◌≡◌, refl, ap}
 use mathlib.Core.Bool.{Bool, true, false, ◌&&◌, cond}
 use mathlib.Core.List.{List}
 use lib.Dec.{leb, eqb}
 use lib.ListN.{length}
-use Rattle.fields.specs.Fields.{Item, Fields, fields_of, item_in, value_in}
+use Rattle.std.specs.Prelude.{Some, None}
+use Rattle.fields.specs.Fields.{Item, Fields, fields_of, item_in}
 use Rattle.fields.specs.Refusals.{framing_number}
 use Rattle.fields.proofs.Bounded.{and_left, and_right}
 use Rattle.files.specs.Header.{contacts_in, contacts_number, contacts_of, has_parts}
 use Rattle.files.proofs.Heads.{counts}
 use Rattle.files.proofs.WholeParts.{has_parts_lem}
 use Rattle.functions.proofs.Trees.{Values}
-use Rattle.drawing.specs.declared.form.Form.TheVariants.{Formed, Unformed}
 use Rattle.drawing.specs.Drawing.{Drawing, drawing_of, drawing_in, is_drawing, form_of, form_number, drawn_at}
 use Rattle.drawing.proofs.Leads.{lead-bit, lead-same, nodes-sound, output-number}
 use Rattle.truths.specs.Inner.Words.{Limited}
@@ -51,7 +51,7 @@ limited-fields fs e = go (is_formed fs) refl e
     s : Bool
     s = is_drawing (drawing_of fs.items)
 
-    go : (t : Bool) → is_formed fs ≡ t → form_number (cond t (Formed (contacts_of fs.items)) Unformed) ≡ 0 →
+    go : (t : Bool) → is_formed fs ≡ t → form_number (cond t (Some (drawing_of fs.items)) None) ≡ 0 →
         Limited (drawing_of fs.items)
     go true t e =
         let parted = and_left (a && b && c && o) k (and_left (a && b && c && o && k) s t) in
@@ -87,18 +87,16 @@ pub record Opened (file : List ℕ) (d : Drawing) : Type 0 where
   pub well : WellFormed file
   pub limited-parts : Limited d
 
-formed-count : (fs : Fields) (n : ℕ) → form_of fs ≡ Formed n → contacts_of fs.items ≡ n
+formed-drawing : (fs : Fields) {d : Drawing} → form_of fs ≡ Some d → d ≡ drawing_of fs.items
 unfolding form_of
-formed-count fs n e = go (is_formed fs) e
+formed-drawing fs {d} e = go (is_formed fs) e
   where
-    go : (b : Bool) → cond b (Formed (contacts_of fs.items)) Unformed ≡ Formed n → contacts_of fs.items ≡ n
+    go : (b : Bool) → cond b (Some (drawing_of fs.items)) None ≡ Some d → d ≡ drawing_of fs.items
     go true e = cc
     go false e = absurd (let z : ◌≡◌ {A = ℕ} 0 1 = cc in omega arith)
 
-pub opened : (file : List ℕ) {n : ℕ} {outputs nodes : List ℕ} → form_of (fields_of file) ≡ Formed n → outputs ≡ value_in (fields_of file).items 1 →
-    nodes ≡ value_in (fields_of file).items 2 → Opened file (record { contacts = n; outputs = outputs; nodes = nodes })
-opened file {n} {outputs} {nodes} f o s =
-    let c = sym (formed-count (fields_of file) n f) in
-    let e : record { contacts = n; outputs = outputs; nodes = nodes } ≡ drawing_in file = λ i. record { contacts = c i; outputs = o i; nodes = s i } in
+pub opened : (file : List ℕ) {d : Drawing} → form_of (fields_of file) ≡ Some d → Opened file d
+opened file f =
+    let e = formed-drawing (fields_of file) f in
     let w : WellFormed file = ap form_number f in
     record { is = e; well = w; limited-parts = rw e (limited file w) }

@@ -9,7 +9,7 @@ use Rattle.fields.specs.declared.Framing.TheVariants.{Whole}
 use Rattle.fields.specs.Fields.{Item, Fields, fields_of}
 use Rattle.fields.proofs.Notes.{of-encoded}
 use Rattle.fields.proofs.Listed.{length-listed}
-use Rattle.files.specs.declared.header.Contacts.TheVariants.{Counted}
+use Rattle.std.specs.Prelude.{Some}
 use Rattle.files.specs.Header.{contacts_in, has_parts}
 use Rattle.files.proofs.Heads.{field}
 use Rattle.files.proofs.WholeParts.{whole_parts}
@@ -38,7 +38,7 @@ module _ (d : Diagram) (s : Sized d) where
   first-bounded zero h = omega arith
   first-bounded (suc l) h = omega (arith, first-bounded l (omega arith), s.widths l h)
 
-  counted : contacts_in (items_of d) ≡ Counted d.contacts
+  counted : contacts_in (items_of d) ≡ Some d.contacts
   unfolding contacts_in
   counted = simp (le-leb _ _ s.contacts.0, le-leb _ _ s.contacts.1)
 

@@ -1,18 +1,18 @@
 -- Words of numbers: one that follows two others bit by bit, and those of a level's nodes, given those of the numbers above.
-use Prim.Native.Nat.{ℕ, zero, suc, ◌+◌, ◌*◌, ◌-◌, ◌≤◌, ◌<◌, min, max}
+use Prim.Native.Nat.{ℕ, zero, suc, ◌+◌, ◌*◌, ◌-◌, ◌^◌, ◌≤◌, ◌<◌, min, max}
 use native.Mathlib.Decide.{ℕ_discrete}
 use native.Mathlib.Omega.{arith}
 use mathlib.Core.Path.{◌≡◌, sym, ap, ap₂, ◌∙◌}
 use mathlib.Core.Bool.{Bool, true, false, not, cond}
 use mathlib.Core.Logic.{by_cases}
 use mathlib.Core.List.{List}
-use lib.Bits.{bit_and, bit_or, bit_xor}
+use lib.Bits.{bit_and, bit_or}
 use lib.ListN.{length, get_or, set}
 use lib.Seq.{get_or-set_same, get_or-set_other}
 use Rattle.diagram.specs.Diagram.{Input, bit, input_of}
 use Rattle.bits.specs.Inner.Bits.{bit_of}
 use Rattle.bits.proofs.Rails.{low_same}
-use Rattle.bits.proofs.Bits.{ones, bit-zero, bit-ones, bit-and, bit-or, bit-flip}
+use Rattle.bits.proofs.Bits.{ones, bit-zero, bit-ones, bit-and, bit-or, bit-not}
 use Rattle.canonical.specs.Inner.Blocks.{input_at}
 use Rattle.drawing.specs.Drawing.{node_count, level_in, edge_in, is_above, lead}
 use Rattle.drawing.proofs.Leads.{stays, level-below, edge-above, listed_above, lead_edge}
@@ -20,13 +20,13 @@ use Rattle.truths.specs.Inner.Words.{Ready, Holds, Closed, WordIs, WordsFrom, Le
 
 -- One word where a contact is closed, another where it is open.
 abbrev pub chosen : ℕ → ℕ → ℕ → ℕ
-chosen closed y z = bit_or (bit_and closed y) (bit_and (bit_xor closed ones) z)
+chosen closed y z = bit_or (bit_and closed y) (bit_and (ones - closed) z)
 
-pub chosen-bit : (k closed y z : ℕ) (b : Bool) → k < 64 → bit_of k closed ≡ bit b → bit_of k (chosen closed y z) ≡ bit_of k (cond b y z)
-chosen-bit k closed y z b h e =
-    bit-or k (bit_and closed y) (bit_and (bit_xor closed ones) z)
+pub chosen-bit : (k closed y z : ℕ) (b : Bool) → k < 64 → closed < 2 ^ 64 → bit_of k closed ≡ bit b → bit_of k (chosen closed y z) ≡ bit_of k (cond b y z)
+chosen-bit k closed y z b h small e =
+    bit-or k (bit_and closed y) (bit_and (ones - closed) z)
     ∙ ap₂ max (bit-and k closed y ∙ ap (λ (c : ℕ). min c (bit_of k y)) e)
-    (bit-and k (bit_xor closed ones) z ∙ ap (λ (c : ℕ). min c (bit_of k z)) (bit-flip k closed b h e))
+    (bit-and k (ones - closed) z ∙ ap (λ (c : ℕ). min c (bit_of k z)) (bit-not k closed b h small e))
     ∙ go b
   where
     go : (b : Bool) → max (min (bit b) (bit_of k y)) (min (bit (not b)) (bit_of k z)) ≡ bit_of k (cond b y z)

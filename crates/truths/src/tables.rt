@@ -1,75 +1,54 @@
 // The truth tables of a drawing's outputs, 64 values a word: within a word the last six contacts vary, and those before them are fixed.
-ghost use Rattle.std.specs.Prelude.{◌≡◌, ◌+◌, ◌*◌, ◌-◌, ◌^◌, ◌≤◌, ◌<◌, length};
+ghost use Rattle.std.specs.Prelude.{◌≡◌, ◌+◌, ◌*◌, ◌-◌, ◌^◌, ◌≤◌, length};
 ghost use Rattle.rows.specs.Inner.Rows.{Tabulated};
-ghost use Rattle.drawing.specs.Drawing.{node_count, drawn_at};
-ghost use Rattle.truths.specs.Inner.Words.{Ready, WordsFrom, From, Filled, Repeated, Block, Numbers};
+ghost use Rattle.drawing.specs.Drawing.{node_count, drawn_at, parted};
+ghost use Rattle.truths.specs.Inner.Words.{WordsFrom, From, Block};
 
-use crate::paths;
+use crate::paths::Sound;
 
-// Writes a word to every place from one up to another.
-fn fill(truths: &mut [u64], from: usize, to: usize, word: u64)
-    requires { (from ≤ to) × (to ≤ length truths.old) }
-    ensures { Filled from to word truths.old truths.new }
-{
-    for i in from..to {
-        truths[i] = word;
-    }
+// A drawing, and the words of its constants and of the nodes of the last six levels.
+#[derive(Clone, Copy, Drop)]
+pub struct Words<'a> {
+    pub drawing: Sound<'a>,
+    pub values: &'a [u64],
+    ghost room: { 2 + node_count drawing.parts.nodes.now ≤ length values.now },
+    ghost worked: { WordsFrom drawing.parts.contacts drawing.parts.nodes.now values.now (drawing.parts.contacts - 6) },
 }
 
-// Repeats the words from a place on, so many, up to another place.
-fn repeat(truths: &mut [u64], to: usize, size: usize, end: usize)
-    requires { (1 ≤ size) × (size ≤ end) × (to + end ≤ length truths.old) × (length truths.old ≤ 512) }
-    ensures { Repeated to size end truths.old truths.new }
-{
-    for i in size..end {
-        truths[to + i] = truths[to + i - size];
+impl Words<'_> {
+    // The truth table of number v over the last of the fixed contacts, so many: one word again and again, the table over one contact less
+    // twice, or those of both edges.
+    fn put_block(self, v: usize, left: usize, block: &mut [u64])
+        requires { let p = self.drawing.parts in (left ≤ p.contacts - 6) × From p.nodes.now (p.contacts - 6 - left) v × (length block.old ≡ 2 ^ left) }
+        ensures { let p = self.entry.drawing.parts in Block p.contacts left p.nodes.now v block.new }
+    {
+        let Some((half, zero, one)) = self.drawing.fork(v) else {
+            block.fill(self.values[v]);
+            return;
+        };
+        let (first, second) = block.split_at_mut(1usize << (left - 1));
+        if half + 1 < left {
+            self.put_block(v, left - 1, first);
+            second.copy_from_slice(first);
+        } else {
+            self.put_block(zero, half, first);
+            self.put_block(one, half, second);
+        }
     }
-}
 
-// The truth table of number v over the last of the fixed contacts, so many: one word, or that of either edge, again and again.
-fn put_block(
-    nodes: &[u8],
-    n: usize,
-    v: usize,
-    left: usize,
-    values: &[u64],
-    truths: &mut [u64],
-    to: usize,
-)
-    requires { Ready n nodes.now × (2 + node_count nodes.now ≤ length values.now) × WordsFrom n nodes.now values.now (n - 6)
-        × (left ≤ n - 6) × From nodes.now (n - 6 - left) v × (to + 2 ^ left ≤ length truths.old) × (length truths.old ≤ 512) }
-    ensures { Block n left nodes.now v to truths.old truths.new }
-{
-    let level = paths::level_of(nodes, n, v);
-    if n <= level + 6 {
-        fill(truths, to, to + (1usize << left), values[v]);
-        return;
-    }
-    let half = n - 7 - level;
-    let zero = paths::edge_of(nodes, n, v, level, false);
-    let one = paths::edge_of(nodes, n, v, level, true);
-    put_block(nodes, n, zero, half, values, truths, to);
-    put_block(nodes, n, one, half, values, truths, to + (1usize << half));
-    repeat(truths, to, 2usize << half, 1usize << left);
-}
-
-// The truth tables of the outputs, one after the other.
-pub fn put_outputs(
-    nodes: &[u8],
-    n: usize,
-    fixed: usize,
-    outputs: &[u8],
-    values: &[u64],
-    truths: &mut [u64],
-)
-    requires { Ready n nodes.now × (2 + node_count nodes.now ≤ length values.now) × WordsFrom n nodes.now values.now (n - 6)
-        × (fixed ≡ n - 6) × (length outputs.now ≤ 8) × Numbers outputs.now nodes.now
-        × (length outputs.now * 2 ^ (n - 6) ≤ length truths.old) × (length truths.old ≤ 512) }
-    ensures { Tabulated n (length outputs.now)
-        (drawn_at (record { contacts = n; outputs = outputs.now; nodes = nodes.now })) truths.new }
-{
-    for j in 0..outputs.len() {
-        let to = j << fixed;
-        put_block(nodes, n, outputs[j] as usize, fixed, values, truths, to);
+    // The truth tables of the outputs, one after the other.
+    pub fn put_outputs(self, truths: &mut [u64])
+        requires { let p = self.drawing.parts in (length p.outputs.now * 2 ^ (p.contacts - 6) ≤ length truths.old) × (length truths.old ≤ 512) }
+        ensures { let p = self.entry.drawing.parts in Tabulated p.contacts (length p.outputs.now) (drawn_at (parted p)) truths.new }
+    {
+        let fixed = rows::fixed_contacts(self.drawing.parts.contacts);
+        let size = 1usize << fixed;
+        for (j, output) in self.drawing.parts.outputs.iter().enumerate() {
+            self.put_block(
+                *output as usize,
+                fixed,
+                &mut truths[j * size..(j + 1) * size],
+            );
+        }
     }
 }

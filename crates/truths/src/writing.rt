@@ -1,70 +1,55 @@
 // The table of a drawing's functions, from its truth tables.
 ghost use Rattle.std.specs.Prelude.{◌≡◌, ◌+◌, ◌*◌, ◌-◌, ◌^◌, ◌≤◌, length};
-ghost use Rattle.drawing.specs.Drawing.{node_count};
-ghost use Rattle.truths.specs.Inner.Words.{Limited, drawn_tabling};
+ghost use Rattle.files.specs.Room.{written};
+ghost use Rattle.drawing.specs.Drawing.{node_count, parted};
+ghost use Rattle.truths.specs.Inner.Words.{drawn_tabling};
 
-use crate::{numbers, tables};
-use files::Written;
+use crate::paths::Sound;
+use crate::tables::Words;
+use files::Refusal;
 
-// Writes the table of the outputs' functions, given room for a word of each number and for the outputs' truth tables.
-fn write_by(
-    n: usize,
-    fixed: usize,
-    outputs: &[u8],
-    nodes: &[u8],
-    values: &mut [u64],
-    truths: &mut [u64],
-    table: &mut [u8],
-) -> Written
-    requires { Limited (record { contacts = n; outputs = outputs.now; nodes = nodes.now }) × (fixed ≡ n - 6)
-        × (2 + node_count nodes.now ≤ length values.old) × (length outputs.now * 2 ^ (n - 6) ≤ length truths.old)
-        × (length truths.old ≤ 512) }
-    ensures { record { refusal = result.refusal; length = result.length; buffer = table.new }
-        ≡ drawn_tabling (record { contacts = n; outputs = outputs.now; nodes = nodes.now }) table.old }
-{
-    numbers::put_words(nodes, n, fixed, values);
-    tables::put_outputs(nodes, n, fixed, outputs, values, truths);
-    rows::write(truths, n, outputs.len(), table)
-}
-
-// The same, with room for the words of 14 nodes or of 200: the buffer is cleared, so a small drawing has the shorter one.
-fn write_with(
-    n: usize,
-    fixed: usize,
-    outputs: &[u8],
-    nodes: &[u8],
-    truths: &mut [u64],
-    table: &mut [u8],
-) -> Written
-    requires { Limited (record { contacts = n; outputs = outputs.now; nodes = nodes.now }) × (fixed ≡ n - 6)
-        × (length outputs.now * 2 ^ (n - 6) ≤ length truths.old) × (length truths.old ≤ 512) }
-    ensures { record { refusal = result.refusal; length = result.length; buffer = table.new }
-        ≡ drawn_tabling (record { contacts = n; outputs = outputs.now; nodes = nodes.now }) table.old }
-{
-    if nodes.len() <= 42 {
-        let mut values = [0u64; 16];
-        return write_by(n, fixed, outputs, nodes, &mut values, truths, table);
+impl Words<'_> {
+    // Writes the table of the outputs' functions, with room for N words of their truth tables.
+    fn write<const N: usize>(self, table: &mut [u8]) -> Result<u32, Refusal>
+        requires { let p = self.drawing.parts in (length p.outputs.now * 2 ^ (p.contacts - 6) ≤ N) × (N ≤ 512) }
+        ensures { written result table.new ≡ drawn_tabling (parted self.entry.drawing.parts) table.old }
+    {
+        let parts = self.drawing.parts;
+        let mut truths = [0u64; N];
+        self.put_outputs(&mut truths);
+        rows::write(&truths, parts.contacts, parts.outputs.len(), table)
     }
-    let mut values = [0u64; 202];
-    write_by(n, fixed, outputs, nodes, &mut values, truths, table)
 }
 
-// Writes the table of the outputs' functions. The buffer for the truth tables has one of three lengths.
-pub fn write_table(n: usize, outputs: &[u8], nodes: &[u8], table: &mut [u8]) -> Written
-    requires { Limited (record { contacts = n; outputs = outputs.now; nodes = nodes.now }) }
-    ensures { record { refusal = result.refusal; length = result.length; buffer = table.new }
-        ≡ drawn_tabling (record { contacts = n; outputs = outputs.now; nodes = nodes.now }) table.old }
+// Writes the table of the outputs' functions, with room for N words of numbers. The room for the truth tables has one of three lengths:
+// it is cleared, so a small drawing has the shortest.
+fn write_with<const N: usize>(drawing: Sound<'_>, table: &mut [u8]) -> Result<u32, Refusal>
+    requires { (2 + node_count drawing.parts.nodes.now ≤ N) × (N ≤ 202) }
+    ensures { written result table.new ≡ drawn_tabling (parted drawing.entry.parts) table.old }
 {
-    let fixed = rows::fixed_contacts(n);
-    let most = outputs.len() << fixed;
+    let mut values = [0u64; N];
+    drawing.put_words(&mut values);
+    let words = Words {
+        drawing: drawing,
+        values: &values,
+    };
+    let most = drawing.parts.outputs.len() << rows::fixed_contacts(drawing.parts.contacts);
     if most <= 8 {
-        let mut truths = [0u64; 8];
-        return write_with(n, fixed, outputs, nodes, &mut truths, table);
+        words.write::<8>(table)
+    } else if most <= 64 {
+        words.write::<64>(table)
+    } else {
+        words.write::<512>(table)
     }
-    if most <= 64 {
-        let mut truths = [0u64; 64];
-        return write_with(n, fixed, outputs, nodes, &mut truths, table);
+}
+
+// Writes the table of the outputs' functions, with room for the words of 14 nodes or of 200.
+pub fn write_table(drawing: Sound<'_>, table: &mut [u8]) -> Result<u32, Refusal>
+    ensures { written result table.new ≡ drawn_tabling (parted drawing.entry.parts) table.old }
+{
+    if drawing.parts.node_count() <= 14 {
+        write_with::<16>(drawing, table)
+    } else {
+        write_with::<202>(drawing, table)
     }
-    let mut truths = [0u64; 512];
-    write_with(n, fixed, outputs, nodes, &mut truths, table)
 }

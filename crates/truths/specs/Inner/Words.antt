@@ -1,5 +1,5 @@
 -- A drawing's truth tables, 64 values a word. Within a word the last six contacts vary, and those before them are fixed.
-use Rattle.std.specs.Prelude.{ℕ, ◌+◌, ◌*◌, ◌-◌, ◌%◌, ◌^◌, ◌≤◌, ◌<◌, ◌≡◌, Bool, true, ◌⊎◌, List, length, get_or}
+use Rattle.std.specs.Prelude.{ℕ, ◌+◌, ◌*◌, ◌-◌, ◌%◌, ◌^◌, ◌≤◌, ◌<◌, ◌≡◌, Bool, true, false, List, length, get_or}
 use Rattle.fields.specs.Bounded.{all}
 use Rattle.diagram.specs.Diagram.{bit, input_of}
 use Rattle.bits.specs.Inner.Bits.{bit_of}
@@ -59,31 +59,19 @@ pub record From (nodes : List ℕ) (l v : ℕ) : Type 0 where
 pub record Same (n : ℕ) (nodes : List ℕ) (w v u : ℕ) : Type 0 where
   pub values : (k : ℕ) → k < 64 → lead nodes (input_at n (64 * w + k)) n u ≡ lead nodes (input_at n (64 * w + k)) n v
 
--- What a number's level says: if the contact of that level is fixed, the number is a node; else no fixed contact leads on from it.
-pub record Rank (n : ℕ) (nodes : List ℕ) (v level : ℕ) : Type 0 where
-  pub early : level + 6 < n → (2 ≤ v) × (level_in nodes (v - 2) ≡ level)
-  pub late : n ≤ level + 6 → From nodes (n - 6) v
-
 -- A node leads to another number in the words in which the contact of its level has a value.
 pub record Half (n : ℕ) (nodes : List ℕ) (v level : ℕ) (b : Bool) (u : ℕ) : Type 0 where
   pub beyond : From nodes (level + 1) u
   pub same : (w : ℕ) → input_of (64 * w) (n - 1 - level) ≡ b → Same n nodes w v u
 
--- One word at every place from one up to another; the rest stays.
-pub record Filled (from to word : ℕ) (before after : List ℕ) : Type 0 where
-  pub word-is : (i : ℕ) → from ≤ i → i < to → get_or after i 0 ≡ word
-  pub others : (i : ℕ) → (i < from) ⊎ (to ≤ i) → get_or after i 0 ≡ get_or before i 0
+-- A node by whose level a fixed contact leads on, to either edge: so many contacts are fixed after that one.
+pub record Forks (n : ℕ) (nodes : List ℕ) (v half zero one : ℕ) : Type 0 where
+  pub node : 2 ≤ v
+  pub fixed : half + 7 ≤ n
+  pub level : level_in nodes (v - 2) ≡ n - 7 - half
+  pub to-zero : Half n nodes v (n - 7 - half) false zero
+  pub to-one : Half n nodes v (n - 7 - half) true one
 
--- The words from a place on, so many, again and again, up to another place; the rest stays.
-pub record Repeated (to size end : ℕ) (before after : List ℕ) : Type 0 where
-  pub same : (i : ℕ) → i < end → get_or after (to + i) 0 ≡ get_or before (to + i % size) 0
-  pub others : (i : ℕ) → (i < to) ⊎ (to + end ≤ i) → get_or after i 0 ≡ get_or before i 0
-
--- The words of number v's truth table from any multiple of 2^left on, 2^left of them, at a place; the rest stays.
-pub record Block (n left : ℕ) (nodes : List ℕ) (v to : ℕ) (before after : List ℕ) : Type 0 where
-  pub held : (w i : ℕ) → w % 2 ^ left ≡ 0 → i < 2 ^ left → Holds n nodes v (w + i) (get_or after (to + i) 0)
-  pub others : (i : ℕ) → (i < to) ⊎ (to + 2 ^ left ≤ i) → get_or after i 0 ≡ get_or before i 0
-
--- Outputs that are constants or listed nodes.
-pub record Numbers (outputs nodes : List ℕ) : Type 0 where
-  pub number : (j : ℕ) → j < length outputs → get_or outputs j 0 < 2 + node_count nodes
+-- The words of number v's truth table from any multiple of 2^left on, 2^left of them.
+pub record Block (n left : ℕ) (nodes : List ℕ) (v : ℕ) (block : List ℕ) : Type 0 where
+  pub held : (w i : ℕ) → w % 2 ^ left ≡ 0 → i < 2 ^ left → Holds n nodes v (w + i) (get_or block i 0)

@@ -1,13 +1,9 @@
--- `writing::write_with` meets its contract: the buffer has room.
+-- `writing::write_with` meets its contract: the rooms are large enough.
 use native.Mathlib.Omega.{arith}
+use Rattle.rows.proofs.Rows.{row-place}
 use Rattle.truths.proofs.writing.write_with.Goals as goal
 
-pub write_by-requires : goal.write_by-requires
-write_by-requires c =
-    let pre = c.requires in
-    (pre.0, pre.1, omega (arith, c.if-nodes-le42.true), pre.2, pre.3)
-
-pub write_by-requires-2 : goal.write_by-requires-2
-write_by-requires-2 c =
-    let pre = c.requires in
-    (pre.0, pre.1, omega (arith, pre.0.nodes), pre.2, pre.3)
+pub write-requires-else-most-le64 : goal.write-requires-else-most-le64
+write-requires-else-most-le64 g c =
+    let limited = c.args.drawing.limited in
+    ((row-place c.args.drawing.parts.contacts _ _ limited.contacts.1 c.fixed_contacts.ensures limited.outputs.1).1, omega arith)

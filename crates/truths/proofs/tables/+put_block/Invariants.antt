@@ -1,5 +1,0 @@
--- The measure of `tables::put_block`: the count of contacts left.
-use Rattle.truths.proofs.tables.+put_block.Given as goal
-
-abbrev pub decreases-put_block : goal.decreases-put_block
-decreases-put_block l = l.left
