@@ -15,7 +15,8 @@ fn put(dst: &mut [u8], value: &[u8])
     dst[..count].copy_from_slice(&value[..count]);
 }
 
-// Lays out each level's width, and its edges from 16 l on.
+// Lays out each level's width, and its edges from 16 l on. A level is a number here, for a proof knows nothing of what stands behind
+// the chunks of a slice that is written.
 fn lay_levels(file: &[u8], widths: &mut [usize], edges: &mut [u8])
     requires { (widths.old ≡ replicate 12 0) × (edges.old ≡ replicate 192 0) }
     ensures widths_after { widths.new ≡ widths_of (fields_of file.now).items }
