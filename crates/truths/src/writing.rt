@@ -10,9 +10,9 @@ use files::Refusal;
 
 impl Words<'_> {
     // Writes the table of the outputs' functions, with room for N words of their truth tables.
-    fn write<const N: usize>(self, table: &mut [u8]) -> Result<u32, Refusal>
-        requires { let p = self.drawing.parts in (length p.outputs.now * 2 ^ (p.contacts - 6) ≤ N) × (N ≤ 512) }
-        ensures { written result table.new ≡ drawn_tabling (parted self.entry.drawing.parts) table.old }
+    fn write<const N: usize>(&self, table: &mut [u8]) -> Result<u32, Refusal>
+        requires { let p = self.now.drawing.parts in (length p.outputs.now * 2 ^ (p.contacts - 6) ≤ N) × (N ≤ 512) }
+        ensures { written result table.new ≡ drawn_tabling (parted self.now.drawing.parts) table.old }
     {
         let parts = self.drawing.parts;
         let mut truths = [0u64; N];

@@ -7,13 +7,13 @@ use Rattle.truths.proofs.tables.Words.+put_block.Goals.{In-Some}
 use Rattle.truths.proofs.tables.Words.+put_block.Goals as goal
 
 split : (t : ℕ) (c : In-Some t) → Split c.args.left c.in-Some.half
-split t c = splits c.args.self.drawing.limited.contacts.1 c.requires.0 c.requires.1 c.in-Some.ensures
+split t c = splits c.args.self.now.drawing.limited.contacts.1 c.requires.0 c.requires.1 c.in-Some.ensures
 
 pub returns-in_default : goal.returns-in_default
 returns-in_default t c =
-    let d = c.args.self.drawing.parts in
+    let d = c.args.self.now.drawing.parts in
     rw (c.fill.ensures.after (λ y e. e), c.requires.2)
-    (block-filled d.contacts d.nodes.now c.args.v c.args.left c.args.self.values.now c.args.self.worked c.in_default.ensures)
+    (block-filled d.contacts d.nodes.now c.args.v c.args.left c.args.self.now.values.now c.args.self.now.worked c.in_default.ensures)
 
 pub split_at_mut-first-requires : goal.split_at_mut-first-requires
 split_at_mut-first-requires t c =
@@ -23,7 +23,7 @@ split_at_mut-first-requires t c =
 pub put_block-requires-else-half-left-2 : goal.put_block-requires-else-half-left-2
 put_block-requires-else-half-left-2 t c =
     let s = split t (goal.at.put_block-requires-else-half-left-2 t c).In-Some in
-    let n = c.args.self.drawing.parts.contacts in
+    let n = c.args.self.now.drawing.parts.contacts in
     let half = c.in-Some.half in
     let f = c.in-Some.ensures in
     let next : n - 6 - half ≡ n - 7 - half + 1 = omega (arith, f.fixed) in
@@ -39,7 +39,7 @@ put_block-requires-else-half-left-2 t c =
 pub returns-then-half-left : goal.returns-then-half-left
 returns-then-half-left t c =
     let s = split t (goal.at.returns-then-half-left t c).In-Some in
-    let d = c.args.self.drawing.parts in
+    let d = c.args.self.now.drawing.parts in
     let p : c.args.left ≡ suc (c.args.left - 1) = omega (arith, s.fewer) in
     rw (c.copy_from_slice.ensures.after, p)
     (block-again d.contacts d.nodes.now c.args.v (c.args.left - 1) c.put_block.new.block
@@ -48,7 +48,7 @@ returns-then-half-left t c =
 pub returns-else-half-left : goal.returns-else-half-left
 returns-else-half-left t c =
     let s = split t (goal.at.returns-else-half-left t c).In-Some in
-    let d = c.args.self.drawing.parts in
+    let d = c.args.self.now.drawing.parts in
     let half = c.in-Some.half in
     let p : c.args.left ≡ suc half = omega (arith, s.fewer) in
     let last : c.args.left - 1 ≡ half = omega arith in

@@ -7,6 +7,6 @@ use Rattle.truths.proofs.tables.Words.write.Goals as goal
 
 pub returns : goal.returns
 returns g c =
-    let s = c.args.self.drawing in
+    let s = c.args.self.now.drawing in
     c.write.ensures
     ∙ rows-tabled _ _ (drawn_at (parted s.parts)) c.put_outputs.new.truths (limited-values (parted s.parts) s.limited) c.put_outputs.ensures _
