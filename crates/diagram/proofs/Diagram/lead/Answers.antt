@@ -1,4 +1,5 @@
 -- `Diagram::lead` meets its contract. The loop's invariant: from node u of level l the levels left lead where all lead from the first node.
+use native.Mathlib.Nat.{sub-zero}
 use native.Mathlib.Numerals.{add-one}
 use native.Mathlib.Omega.{arith}
 use Prim.Native.Nat.{ℕ, zero, suc, ◌+◌, ◌*◌, ◌/◌, ◌%◌, ◌-◌, ◌^◌, ◌≤◌, ◌<◌}
@@ -30,6 +31,12 @@ module _ (d : Diagram) (a l u : ℕ) where
   no-level : l ≤ d.contacts → d.contacts ≤ l → u ≡ path d (input_of a) (d.contacts - l) l u
   unfolding path
   no-level h g = let e : d.contacts - l ≡ 0 = omega arith in rw e
+
+pub loop-l-init : goal.loop-l-init
+loop-l-init c =
+    let a = c.args in
+    let d = a.self.now in
+    (omega arith, omega arith, omega arith, ap (λ (k : ℕ). path d (input_of a.input) k 0 a.node) (sub-zero d.contacts))
 
 pub loop-l-preserved : goal.loop-l-preserved
 loop-l-preserved c =
