@@ -93,8 +93,9 @@ impl<const N: usize> Gathering<N> {
         ensures same { (self.new.words ≡ self.old.words) × (self.new.outputs ≡ self.old.outputs) × (self.new.ruled ≡ self.old.ruled) }
         ensures marked { Marked self.old.words self.old.outputs w word pattern self.old.truths self.new.truths }
     {
+        let words = self.words;
         for j in 0..self.outputs {
-            mark_one(&mut self.truths, j * self.words + w, word, j, pattern);
+            mark_one(&mut self.truths, j * words + w, word, j, pattern);
         }
     }
 
