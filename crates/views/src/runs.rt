@@ -5,7 +5,7 @@ ghost use Rattle.std.specs.Prelude.{◌≡◌, ◌≤◌, length, IfOk, OnErr};
 use std::io;
 use std::io::Write;
 use text::print::Signs;
-use text::spelling;
+use text::{print, spelling};
 
 // A run of a netlist with what else the case says.
 pub fn show<W: Write>(out: &mut W, netlist: &[u8], case: &[u8]) -> io::Result<()> {
@@ -15,7 +15,7 @@ pub fn show<W: Write>(out: &mut W, netlist: &[u8], case: &[u8]) -> io::Result<()
     let mut pairs = [b'.'; 10609];
     let lines = &mut lines[..lines_len];
     let pairs = &mut pairs[..pairs_len];
-    let refusal = run::run(
+    let ran = run::run(
         netlist,
         reader::nth(case, 4),
         reader::nth(case, 3),
@@ -25,7 +25,8 @@ pub fn show<W: Write>(out: &mut W, netlist: &[u8], case: &[u8]) -> io::Result<()
     let from = spelling::number(out, case, 2, 10610)?;
     write!(
         out,
-        ": {refusal}, lines {}, pairs {}",
+        ": {}, lines {}, pairs {}",
+        print::refusal(&ran),
         Signs(&lines[from.min(lines_len)..]),
         Signs(pairs)
     )
