@@ -38,7 +38,7 @@ pub fn show_row<W: Write>(out: &mut W, case: &[u8]) -> io::Result<()> {
 }
 
 // Writes a drawing with twelve contacts, one output, the last number, and so many nodes of three bytes 0, which lead to the constant 0,
-// over bytes 0; returns its length. The case's first part says how many nodes.
+// over bytes 0; returns its length, as runs::put_row does. The case's first part says how many nodes.
 fn put_row<W: Write>(out: &mut W, case: &[u8], file: &mut [u8; 623]) -> io::Result<usize>
     ensures ok { IfOk result (λ n. n ≤ length file.new) }
     ensures err { OnErr result (file.new ≡ file.old) }

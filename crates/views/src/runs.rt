@@ -40,7 +40,8 @@ pub fn show_row<W: Write>(out: &mut W, case: &[u8]) -> io::Result<()> {
 }
 
 // Writes a netlist with one contact, so many gates of five bytes 0, ANDs of the constant 0, and one output, the last line and the
-// false rail, over bytes 0; returns its length. The case's first part says how many gates.
+// false rail, over bytes 0; returns its length, since no clause could speak of a file that is lent on. The case's first part says how
+// many gates.
 pub fn put_row<W: Write>(out: &mut W, case: &[u8], file: &mut [u8; 53029]) -> io::Result<usize>
     ensures ok { IfOk result (λ n. n ≤ length file.new) }
     ensures err { OnErr result (file.new ≡ file.old) }
