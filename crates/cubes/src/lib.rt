@@ -60,7 +60,7 @@ fn narrow(word: u64, byte: u8, closed: u64) -> u64
     }
 }
 
-// The inputs of a word that fit a rule by the last contacts.
+// The inputs of a word that fit a rule by the last contacts, each by its number, which its rail is given by too.
 fn pattern_of(rule: &[u8], n: usize, fixed: usize) -> u64
     requires { (n ≤ 12) × (fixed ≡ n - 6) × (n ≤ length rule.now) }
     ensures { Low n fixed (n - fixed) rule.now result }
