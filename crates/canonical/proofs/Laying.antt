@@ -19,7 +19,7 @@ use Rattle.files.proofs.WrittenLemmas.{onward}
 use Rattle.table.specs.Encode.{level_item, bytes_of}
 use Rattle.functions.specs.Functions.{Function, level_of, firsts, number_in, canonical, is_narrow}
 use Rattle.canonical.specs.Service.{laid_of}
-use Rattle.canonical.specs.Inner.Blocks.{blocks_at, is_few, next_of, level_bytes, head_bytes, Blocks, Starts, Put}
+use Rattle.canonical.specs.Inner.Blocks.{blocks_at, is_few, next_of, level_bytes, head_bytes, Starts, Put}
 use Rattle.canonical.proofs.Searching.{length-blocks}
 
 -- One field more.
@@ -98,9 +98,6 @@ module _ (f : ℕ → Function) (n m : ℕ) where
 
     abbrev fs : List Function
     fs = blocks_at ws (suc (n - 1 - l)) starts
-
-    pub level-blocks : Blocks ws (suc (n - 1 - l)) starts
-    level-blocks = rw (← step) (e.starts some).blocks
 
     level-is : fs ≡ level_of f m l
     level-is = rw (← step) (e.starts some).are

@@ -3,18 +3,17 @@ use Prim.Native.Nat.{ℕ, zero, suc, ◌+◌, ◌≤◌, ◌<◌}
 use native.Mathlib.Numerals.{add-one}
 use native.Mathlib.Omega.{arith}
 use mathlib.Core.Path.{◌≡◌, refl, sym, ap, ◌∙◌}
-use mathlib.Core.Bool.{true, false}
+use mathlib.Core.Bool.{false}
 use mathlib.Core.List.{List, [], ◌∷◌, ◌++◌, map-append}
-use borrow.Author.Tests.{ne_eqb, le-leb, lt-leb}
+use borrow.Author.Tests.{ne_eqb, lt-leb}
 use lib.ListN.{length, get_or, take, set, length-append}
 use lib.Seq.{take-suc-set}
 use Rattle.std.proofs.lemmas.List.Elements.{All-nil, All-push}
 use Rattle.fields.specs.Bounded.{listed}
 use Rattle.fields.proofs.Listed.{listed_more}
 use Rattle.functions.specs.Functions.{Function, firsts, number_in, place}
-use Rattle.functions.proofs.Places.{place-most}
 use Rattle.functions.proofs.Firsts.{firsts-none, firsts-old, firsts-new, length_more, place-entered}
-use Rattle.canonical.specs.Inner.Blocks.{bit_in, block_at, blocks_at, mention_at, level_at, is_few, Block, Blocks, Numbered}
+use Rattle.canonical.specs.Inner.Blocks.{bit_in, block_at, blocks_at, mention_at, level_at, is_few, Block, Blocks}
 use Rattle.canonical.proofs.Searching.{length-blocks}
 
 -- The first places of a list have what f gives: none, and one more.
@@ -47,17 +46,6 @@ number ws left mentions k = number_in (level_at ws left mentions) (mention_at ws
 pub few-not : (left : ℕ) (fs : List Function) → 1 ≤ left → 8 < length fs → false ≡ is_few left fs
 few-not left fs h l = simp (ne_eqb left 0 (λ e. omega arith), lt-leb (length fs) 8 l)
 
-pub few_are : (left : ℕ) (fs : List Function) → 1 ≤ left → length fs ≤ 8 → true ≡ is_few left fs
-few_are left fs h l = simp (ne_eqb left 0 (λ q. omega arith), le-leb (length fs) 8 l)
-
--- Numbered constants are not counted.
-pub constants-few : (left : ℕ) (fs : List Function) → left ≡ 0 → true ≡ is_few left fs
-constants-few left fs e = rw e refl
-
-pub constants-entered : (ws ms numbers starts : List ℕ) (left : ℕ) → left ≡ 0 → Numbered ws 0 ms numbers [] → Numbered ws left ms numbers starts
-constants-entered ws ms numbers starts left e n =
-    rw e (record { numbers-are = n.numbers-are; starts-are = λ some. absurd (some refl) })
-
 -- The places of the functions that the first k mentions give, at most eight.
 pub record Entered (ws : List ℕ) (left : ℕ) (mentions : List ℕ) (k : ℕ) (starts : List ℕ) : Type 0 where
   pub few : length starts ≤ 8
@@ -80,9 +68,6 @@ module _ (ws : List ℕ) (left : ℕ) (mentions : List ℕ) where
     module _ (found : ℕ) (at : found ≡ place (blocks_at ws left starts) (mention k)) where
       found-there : found ≡ place (firsts mention k) (mention k)
       found-there = at ∙ ap (λ (fs : List Function). place fs (mention k)) e.are
-
-      pub found-most : found ≤ length starts
-      found-most = omega (arith, found-there, place-most (firsts mention k) (mention k), entered-width)
 
       pub found_number : 1 ≤ left → k < length mentions → found ≡ number ws left mentions k
       found_number h l =

@@ -4,7 +4,8 @@ ghost use Rattle.std.specs.Prelude.{◌≡◌, ℕ, ◌/◌, ◌%◌, ◌^◌, �
 ghost use Rattle.functions.specs.Functions as functions;
 ghost use Rattle.canonical.specs.Inner.Blocks.{block_at, bit_in, Block};
 
-// Truth tables, and how many contacts their functions have left: a function is a block of 2^left bits, known by the place where it begins.
+// Truth tables, and how many contacts their functions have left: a function is a block of 2^left bits, known by the place where it
+// begins.
 #[derive(Clone, Copy, Drop)]
 pub struct Truths<'a> {
     pub words: &'a [u64],
@@ -26,7 +27,7 @@ impl Truths<'_> {
     // Whether two blocks are the same.
     pub fn same(self, a: usize, b: usize) -> bool
         requires { Block self.words.now self.left a × Block self.words.now self.left b }
-        ensures { result ≡ functions.same (block_at self.entry.words.now self.entry.left a) (block_at self.entry.words.now self.entry.left b) }
+        ensures { let block = block_at self.entry.words.now self.entry.left in result ≡ functions.same (block a) (block b) }
     {
         if self.left < 6 {
             return self.part(a) == self.part(b);

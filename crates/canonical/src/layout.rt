@@ -13,7 +13,8 @@ use files::{Refusal, Room};
 
 // Writes the fields before the levels' and lists the functions of the outputs; none if they are more than eight.
 fn put_outputs(truths: Truths<'_>, outputs: &[usize], file: &mut [u8]) -> Option<Level>
-    requires { (length outputs.now ≤ 8) × Blocks truths.words.now truths.left outputs.now × (7 + length outputs.now ≤ length file.old) }
+    requires { (length outputs.now ≤ 8) × Blocks truths.words.now truths.left outputs.now
+        × (7 + length outputs.now ≤ length file.old) }
     ensures value { let f = mention_at truths.entry.words.now truths.entry.left outputs.now in
         is_some result ≡ is_few truths.entry.left (level_of f (length outputs.now) 0) }
     ensures put { let f = mention_at truths.entry.words.now truths.entry.left outputs.now in
@@ -32,11 +33,13 @@ fn put_outputs(truths: Truths<'_>, outputs: &[usize], file: &mut [u8]) -> Option
 fn put_level(truths: Truths<'_>, level: &Level, file: &mut [u8], at: usize) -> Option<Level>
     requires { (truths.left ≤ 11) × (length level.now ≤ 8) × Blocks truths.words.now (suc truths.left) level.now
         × (length truths.words.now ≤ 512) × (at + 3 + 2 * length level.now ≤ length file.old) }
-    ensures value { is_some result ≡ is_few truths.entry.left (next_of (blocks_at truths.entry.words.now (suc truths.entry.left) level.now)) }
+    ensures value { let fs = blocks_at truths.entry.words.now (suc truths.entry.left) level.now in
+        is_some result ≡ is_few truths.entry.left (next_of fs) }
     ensures put { let fs = blocks_at truths.entry.words.now (suc truths.entry.left) level.now in
         IfSome result (λ next. Put truths.entry.words.now truths.entry.left (next_of fs) at (level_bytes fs) file.old file.new next) }
 {
-    let halves = level.halves(truths.left);
+    let mut halves = [0usize; 16];
+    level.halve(truths.left, &mut halves);
     let count = 2 * level.starts().len();
     let mut numbers = [0u8; 16];
     let next = truths.enter(&halves[..count], &mut numbers[..count])?;
@@ -44,7 +47,8 @@ fn put_level(truths: Truths<'_>, level: &Level, file: &mut [u8], at: usize) -> O
     Some(next)
 }
 
-// Lays the table's file out from the start of a buffer, level by level, and gives its length; none if a level has more than eight functions.
+// Lays the table's file out from the start of a buffer, level by level, and gives its length; none if a level has more than eight
+// functions.
 fn lay(words: &[u64], n: usize, outputs: &[usize], file: &mut [u8]) -> Option<usize>
     requires { (1 ≤ n) × (n ≤ 12) × (1 ≤ length outputs.now) × (length outputs.now ≤ 8) × Blocks words.now n outputs.now
         × (length words.now ≤ 512) × (length file.old ≡ 243) }

@@ -42,7 +42,8 @@ impl Level {
 
     // Lists a function after the others, and gives its number, or none where there are eight already.
     fn push(&mut self, start: usize) -> Option<usize>
-        ensures { MatchOption result (8 ≤ length self.old) (λ u. (u ≡ length self.old) × (length self.old < 8) × (self.new ≡ self.old ++ start ∷ [])) }
+        ensures { MatchOption result (8 ≤ length self.old)
+            (λ u. (u ≡ length self.old) × (length self.old < 8) × (self.new ≡ self.old ++ start ∷ [])) }
     {
         let number = self.width;
         if number == 8 {
@@ -53,17 +54,15 @@ impl Level {
         Some(number)
     }
 
-    // The halves of the level's blocks, each half of 2^left bits: one block after the other, the first half first.
-    pub fn halves(&self, left: usize) -> [usize; 16]
+    // Lists the halves of the level's blocks, each half of 2^left bits: one block after the other, the first half first.
+    pub fn halve(&self, left: usize, halves: &mut [usize; 16])
         requires { (left ≤ 11) × ((i : ℕ) → i < length self.now → get_or self.now i 0 < 32768) }
-        ensures { (k : ℕ) → k < 2 * length self.now → get_or result k 0 ≡ get_or self.now (k / 2) 0 + k % 2 * 2 ^ left }
+        ensures { (k : ℕ) → k < 2 * length self.now → get_or halves.new k 0 ≡ get_or self.now (k / 2) 0 + k % 2 * 2 ^ left }
     {
-        let mut halves = [0usize; 16];
         for (u, start) in self.starts().iter().enumerate() {
             halves[2 * u] = *start;
             halves[2 * u + 1] = *start + (1 << left);
         }
-        halves
     }
 }
 
@@ -71,7 +70,8 @@ impl Truths<'_> {
     // The place of a block among others, the first that is the same.
     fn find(self, starts: &[usize], start: usize) -> Option<usize>
         requires { Blocks self.words.now self.left starts.now × Block self.words.now self.left start }
-        ensures { result ≡ position (λ s. same (block_at self.entry.words.now self.entry.left s) (block_at self.entry.words.now self.entry.left start)) starts.now }
+        ensures { let block = block_at self.entry.words.now self.entry.left in
+            result ≡ position (λ s. same (block s) (block start)) starts.now }
     {
         starts.iter().position(|other| self.same(*other, start))
     }

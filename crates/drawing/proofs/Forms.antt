@@ -22,7 +22,7 @@ use Rattle.files.specs.Inner.Row.{is_some, item_by, ends_within}
 use Rattle.files.proofs.Heads.{contacts-are}
 use Rattle.files.proofs.Taking.{three-or-four}
 use Rattle.drawing.specs.declared.form.Parts.{Parts}
-use Rattle.drawing.specs.Drawing.{Drawing, drawing_of, node_count, level_in, edge_in, is_number, is_above, is_node, is_drawing, parted, form_of}
+use Rattle.drawing.specs.Drawing.{Drawing, drawing_of, node_count, is_number, is_above, is_node, is_drawing, parted, form_of}
 
 -- Whether each element passes, and each number below a bound.
 pub all-listed : (p : ℕ → Bool) (xs : List ℕ) → list_all p xs ≡ all (length xs) (λ k. p (get_or xs k 0))
@@ -68,23 +68,6 @@ module _ (nodes : List ℕ) (l : ℕ) where
   above_listed (suc (suc i)) h g =
       let e : suc (suc i) - 2 ≡ i = omega arith in
       ap (λ (k : ℕ). ltb l (get_or nodes (3 * k) 0)) e ∙ simp (lt-ltb i (node_count nodes) (omega arith))
-
--- A node.
-module _ (nodes : List ℕ) (n i : ℕ) where
-  abbrev zero_above : Bool
-  zero_above = is_above nodes (level_in nodes i) (edge_in nodes i false)
-
-  abbrev one_above : Bool
-  one_above = is_above nodes (level_in nodes i) (edge_in nodes i true)
-
-  pub level-past : n ≤ level_in nodes i → false ≡ is_node n nodes i
-  level-past h = simp (le-ltb (level_in nodes i) n h)
-
-  pub zero-wrong : zero_above ≡ false → false ≡ is_node n nodes i
-  zero-wrong e = simp (e, and-false)
-
-  pub zero_right : level_in nodes i < n → zero_above ≡ true → {b : Bool} → b ≡ one_above → b ≡ is_node n nodes i
-  zero_right h e f = f ∙ simp (lt-ltb (level_in nodes i) n h, e)
 
 module _ (fs : Fields) where
   -- What was found is the drawing of the file's items.

@@ -25,7 +25,7 @@ impl Parts<'_> {
     // A node's level, its 0-edge and its 1-edge.
     pub fn node(self, i: usize) -> [u8; 3]
         requires { i < node_count self.nodes.now }
-        ensures { result ≡ level_in self.entry.nodes.now i ∷ edge_in self.entry.nodes.now i false ∷ edge_in self.entry.nodes.now i true ∷ [] }
+        ensures { let nodes = self.entry.nodes.now in result ≡ level_in nodes i ∷ edge_in nodes i false ∷ edge_in nodes i true ∷ [] }
     {
         [
             self.nodes[3 * i],

@@ -14,14 +14,6 @@ use Rattle.truths.proofs.Words.{edge-from, edge-value}
 pub from_start : {nodes : List ℕ} {v l : ℕ} → v < 2 + node_count nodes → l ≡ 0 → From nodes l v
 from_start h e = record { number = h; level = λ i q. omega arith }
 
--- A number by which no fixed contact leads on.
-pub constant-late : (n : ℕ) (nodes : List ℕ) (v : ℕ) → v < 2 → From nodes (n - 6) v
-constant-late n nodes v h = record { number = omega arith; level = λ i e. absurd (omega arith) }
-
-pub node-late : (n : ℕ) (nodes : List ℕ) (v : ℕ) → 2 ≤ v → v < 2 + node_count nodes → n ≤ level_in nodes (v - 2) + 6 → From nodes (n - 6) v
-node-late n nodes v two h late =
-    record { number = h; level = λ i e. let q : v - 2 ≡ i = omega arith in omega (arith, ap (level_in nodes) q) }
-
 -- A node leads to its edges.
 module _ (n : ℕ) (nodes : List ℕ) (ready : Ready n nodes) (v half : ℕ) (two : 2 ≤ v) (h : v < 2 + node_count nodes)
     (fixed : level_in nodes (v - 2) + 7 + half ≡ n) where

@@ -16,7 +16,7 @@ use Rattle.bits.proofs.Bits.{ones, bit-zero, bit-ones, bit-and, bit-or, bit-not}
 use Rattle.canonical.specs.Inner.Blocks.{input_at}
 use Rattle.drawing.specs.Drawing.{node_count, level_in, edge_in, is_above, lead}
 use Rattle.drawing.proofs.Leads.{stays, level-below, edge-above, listed_above, lead_edge}
-use Rattle.truths.specs.Inner.Words.{Ready, Holds, Closed, WordIs, WordsFrom, LevelTo, From}
+use Rattle.truths.specs.Inner.Words.{Ready, Holds, WordIs, WordsFrom, LevelTo, From}
 
 -- One word where a contact is closed, another where it is open.
 abbrev pub chosen : ℕ → ℕ → ℕ → ℕ
@@ -33,21 +33,12 @@ chosen-bit k closed y z b h small e =
     go true = omega arith
     go false = omega arith
 
-pub closed-by : {place word : ℕ} → ((k : ℕ) → k < 64 → bit_of k word ≡ bit (input_of (0 + k) place)) → Closed place word
-closed-by {place} pattern =
-    record {
-      bits = λ k h. pattern k h ∙ ap (λ (i : ℕ). bit (input_of i place)) (let e : 0 + k ≡ k = omega arith in e);
-    }
-
 -- The word of a number of level l or above.
 pub word_of : (n : ℕ) (nodes values : List ℕ) (l u : ℕ) → WordsFrom n nodes values l → From nodes l u → WordIs n nodes values u
 word_of n nodes values l zero r f = r.zero
 word_of n nodes values l (suc zero) r f = r.one
 word_of n nodes values l (suc (suc i)) r f =
     rw (let e : suc (suc i) ≡ 2 + i = omega arith in e) (r.above i (omega (arith, f.number)) (f.level i (omega arith)))
-
-pub words-as : {n : ℕ} {nodes values : List ℕ} {l m : ℕ} → m ≡ l → WordsFrom n nodes values l → WordsFrom n nodes values m
-words-as e r = rw e r
 
 module _ (n : ℕ) (nodes : List ℕ) (ready : Ready n nodes) where
   pub constant-words : (values : List ℕ) → get_or values 0 0 ≡ 0 → get_or values 1 0 ≡ ones → WordsFrom n nodes values n
@@ -106,9 +97,6 @@ module _ (n : ℕ) (nodes : List ℕ) (ready : Ready n nodes) where
       record { bits = λ k h. ap (bit_of k) (get_or-set_other values (2 + i) v word 0 ne) ∙ (r w).bits k h }
 
   module _ (l : ℕ) where
-    pub level-none : (values : List ℕ) → WordsFrom n nodes values (l + 1) → LevelTo n nodes values l 0
-    level-none values r = record { above = r; passed = λ i h. absurd (omega arith) }
-
     -- A node of another level.
     pub level-other : (values : List ℕ) (count : ℕ) → (level_in nodes count ≡ l → ⊥) → LevelTo n nodes values l count →
         LevelTo n nodes values l (count + 1)
@@ -134,7 +122,3 @@ module _ (n : ℕ) (nodes : List ℕ) (ready : Ready n nodes) where
               (λ q. rw q (λ w. record { bits = λ k b. ap (bit_of k) (get_or-set_same values (2 + count) word 0 (omega arith)) ∙ (new w).bits k b }))
               (λ ne. kept (2 + i) (λ q. ne (omega arith)) (t.passed i (omega arith) m p));
         }
-
-    pub level_all : (values : List ℕ) (count : ℕ) → node_count nodes ≤ count → LevelTo n nodes values l count → WordsFrom n nodes values l
-    level_all values count h t =
-        record { zero = t.above.zero; one = t.above.one; above = λ i g m. t.passed i (omega arith) g m }

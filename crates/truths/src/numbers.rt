@@ -18,8 +18,8 @@ fn mix(closed: u64, zero: u64, one: u64) -> u64
 impl Sound<'_> {
     // The word of node i, if it is of this level, given the words of the levels above it.
     fn put_node(self, level: usize, closed: u64, i: usize, values: &mut [u64])
-        requires { let p = self.parts in (2 + node_count p.nodes.now ≤ length values.old) × (level < p.contacts) × (p.contacts ≤ level + 6)
-            × Closed (p.contacts - 1 - level) closed × (i < node_count p.nodes.now)
+        requires { let p = self.parts in (2 + node_count p.nodes.now ≤ length values.old) × (level < p.contacts)
+            × (p.contacts ≤ level + 6) × Closed (p.contacts - 1 - level) closed × (i < node_count p.nodes.now)
             × LevelTo p.contacts p.nodes.now values.old level i }
         ensures { LevelTo self.entry.parts.contacts self.entry.parts.nodes.now values.new level (i + 1) }
     {
@@ -32,8 +32,8 @@ impl Sound<'_> {
 
     // The words of the nodes of a level, given those of the levels above it.
     fn put_level(self, level: usize, values: &mut [u64])
-        requires { let p = self.parts in (2 + node_count p.nodes.now ≤ length values.old) × (level < p.contacts) × (p.contacts ≤ level + 6)
-            × WordsFrom p.contacts p.nodes.now values.old (level + 1) }
+        requires { let p = self.parts in (2 + node_count p.nodes.now ≤ length values.old) × (level < p.contacts)
+            × (p.contacts ≤ level + 6) × WordsFrom p.contacts p.nodes.now values.old (level + 1) }
         ensures { WordsFrom self.entry.parts.contacts self.entry.parts.nodes.now values.new level }
     {
         let closed = bits::rail_batch(self.parts.contacts - 1 - level, 0);

@@ -7,7 +7,7 @@ ghost use Rattle.truths.specs.Inner.Words.{WordsFrom, From, Block};
 use crate::paths::Sound;
 
 // A drawing, and the words of its constants and of the nodes of the last six levels.
-#[derive(Clone, Copy, Drop)]
+#[derive(Drop)]
 pub struct Words<'a> {
     pub drawing: Sound<'a>,
     pub values: &'a [u64],
@@ -19,7 +19,8 @@ impl Words<'_> {
     // The truth table of number v over the last of the fixed contacts, so many: one word again and again, the table over one contact less
     // twice, or those of both edges.
     fn put_block(&self, v: usize, left: usize, block: &mut [u64])
-        requires { let p = self.now.drawing.parts in (left ≤ p.contacts - 6) × From p.nodes.now (p.contacts - 6 - left) v × (length block.old ≡ 2 ^ left) }
+        requires { let p = self.now.drawing.parts in (left ≤ p.contacts - 6) × From p.nodes.now (p.contacts - 6 - left) v
+            × (length block.old ≡ 2 ^ left) }
         ensures { let p = self.now.drawing.parts in Block p.contacts left p.nodes.now v block.new }
     {
         let Some((half, zero, one)) = self.drawing.fork(v) else {
@@ -38,7 +39,8 @@ impl Words<'_> {
 
     // The truth tables of the outputs, one after the other.
     pub fn put_outputs(&self, truths: &mut [u64])
-        requires { let p = self.now.drawing.parts in (length p.outputs.now * 2 ^ (p.contacts - 6) ≤ length truths.old) × (length truths.old ≤ 512) }
+        requires { let p = self.now.drawing.parts in (length p.outputs.now * 2 ^ (p.contacts - 6) ≤ length truths.old)
+            × (length truths.old ≤ 512) }
         ensures { let p = self.now.drawing.parts in Tabulated p.contacts (length p.outputs.now) (drawn_at (parted p)) truths.new }
     {
         let fixed = rows::fixed_contacts(self.drawing.parts.contacts);

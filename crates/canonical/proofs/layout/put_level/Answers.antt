@@ -15,17 +15,17 @@ use Rattle.canonical.proofs.layout.put_level.Goals.{After-starts}
 use Rattle.canonical.proofs.layout.put_level.Goals as goal
 
 -- The halves that are mentioned.
-long : (c : After-starts) → let mentions = take (2 * length c.starts.result.now) c.halves-halves.result in
+long : (c : After-starts) → let mentions = take (2 * length c.starts.result.now) c.halve.new.halves in
     length mentions ≡ 2 * length c.args.level.now
 long c =
     let n = ap length c.starts.ensures.are in
-    let size : length c.halves-halves.result ≡ 16 = search rules in
-    length-take-le (2 * length c.starts.result.now) c.halves-halves.result (omega (arith, n, size, c.starts.ensures.few)) ∙ omega (arith, n)
+    let size : length c.halve.new.halves ≡ 16 = search rules in
+    length-take-le (2 * length c.starts.result.now) c.halve.new.halves (omega (arith, n, size, c.starts.ensures.few)) ∙ omega (arith, n)
 
-split : (c : After-starts) → let mentions = take (2 * length c.starts.result.now) c.halves-halves.result in
+split : (c : After-starts) → let mentions = take (2 * length c.starts.result.now) c.halve.new.halves in
     (k : ℕ) → k < 2 * length c.args.level.now → get_or mentions k 0 ≡ get_or c.args.level.now (k / 2) 0 + k % 2 * 2 ^ c.args.truths.left
 split c k l =
-    get_or-take (2 * length c.starts.result.now) c.halves-halves.result k 0 (omega (arith, ap length c.starts.ensures.are)) ∙ c.halves-halves.ensures k l
+    get_or-take (2 * length c.starts.result.now) c.halve.new.halves k 0 (omega (arith, ap length c.starts.ensures.are)) ∙ c.halve.ensures k l
 
 pub enter-requires : goal.enter-requires
 enter-requires c =

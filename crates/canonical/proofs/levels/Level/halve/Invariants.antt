@@ -1,8 +1,8 @@
--- `Level::halves` meets its contract. The loop's invariant: the halves of the blocks passed are listed.
+-- `Level::halve` meets its contract. The loop's invariant: the halves of the blocks passed are listed.
 use Prim.Native.Nat.{ℕ, ◌+◌, ◌*◌, ◌/◌, ◌%◌, ◌^◌, ◌<◌}
 use mathlib.Core.Path.{◌≡◌}
 use lib.ListN.{length, get_or}
-use Rattle.canonical.proofs.levels.Level.halves.Given as goal
+use Rattle.canonical.proofs.levels.Level.halve.Given as goal
 
 abbrev pub invariant-loop-u : goal.invariant-loop-u
 invariant-loop-u l =

@@ -1,4 +1,4 @@
--- `Level::halves` meets its contract.
+-- `Level::halve` meets its contract.
 use native.Mathlib.Omega.{arith}
 use Prim.Native.Nat.{ℕ, ◌+◌, ◌*◌, ◌/◌, ◌%◌, ◌^◌}
 use mathlib.Core.Path.{ap, ◌∙◌}
@@ -6,7 +6,7 @@ use mathlib.Core.List.{List}
 use lib.ListN.{length, get_or, length-set}
 use Rattle.bits.proofs.Bits.{bits-of}
 use Rattle.canonical.proofs.Halves.{two_more, first-half, second-half}
-use Rattle.canonical.proofs.levels.Level.halves.Goals as goal
+use Rattle.canonical.proofs.levels.Level.halve.Goals as goal
 
 pub loop-u-preserved : goal.loop-u-preserved
 loop-u-preserved c =
