@@ -15,7 +15,7 @@ const PATTERNS: [u64; 6] = [
     0xFFFF_FFFF_0000_0000,
 ];
 
-// A value at all 64 inputs.
+// A value at all 64 inputs, a byte of 0 or 1 as the callers hold it.
 pub fn same_batch(value: u8) -> u64
     requires { value ≤ 1 }
     ensures { (k : ℕ) → k < 64 → bit_of k result ≡ value }

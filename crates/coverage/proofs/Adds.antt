@@ -1,10 +1,8 @@
 -- A cube added word by word.
 use Prim.Native.Nat.{ℕ, ◌+◌, ◌*◌, ◌^◌, ◌<◌, max}
-use native.Mathlib.Decide.{ℕ_discrete}
 use native.Mathlib.Omega.{arith}
-use mathlib.Core.Path.{◌≡◌, refl, sym, ap, ap₂, ◌∙◌, subst}
+use mathlib.Core.Path.{◌≡◌, sym, ap, ap₂, ◌∙◌, subst}
 use mathlib.Core.Bool.{Bool, true, false, ◌&&◌, ◌||◌, cond, and-true, and-false, or-false}
-use mathlib.Core.Logic.{by_cases}
 use mathlib.Core.List.{List}
 use borrow.Author.Tests.{eq-eqb, eqb-true}
 use lib.Bits.{bit_and, bit_or, and_le_l}
@@ -21,7 +19,7 @@ use Rattle.cubes.specs.declared.Cube.{Cube}
 use Rattle.cubes.specs.Inner.Cubes.{has_word, is_in}
 use Rattle.coverage.specs.declared.cover.Shares.{Shares}
 use Rattle.coverage.specs.declared.cover.Shares.TheVariants.{Apart, Shared}
-use Rattle.coverage.specs.Inner.Gathering.{Marked, Gains, Put, Meets, PutIf, Added, AddedIf}
+use Rattle.coverage.specs.Inner.Gathering.{Marked, Gains, Put, Meets, Added, AddedIf}
 use Rattle.coverage.proofs.Marks.{words-apart}
 
 -- Bits that stay, and bits of a word with a pattern.
@@ -38,20 +36,6 @@ gains-chosen false k a pattern = gains-none _ (and-false (eqb (bit_of k pattern)
 
 -- One word.
 module _ (words m : ℕ) (c : Cube) (word v : ℕ) (ruled truths : List ℕ) where
-  -- It has none of the cube's inputs.
-  pub put-none : has_word c v ≡ false → Put words m c word v ruled truths ruled truths
-  put-none e =
-      record {
-        some = λ k l. gains-none (is_in c v k) (out k) refl;
-        each = λ j k h l. gains-none (is_in c v k && has_output word j) (ap (λ (b : Bool). b && has_output word j) (out k)) refl;
-        apart = λ k l t. absurd (let z : ◌≡◌ {A = ℕ} 0 1 = ap bit (sym (out k) ∙ t) in omega arith);
-        ruled-rest = λ w n. refl;
-        truths-rest = λ j w h g n. refl;
-      }
-    where
-      out : (k : ℕ) → is_in c v k ≡ false
-      out k = ap (λ (b : Bool). b && eqb (bit_of k c.pattern) 1) e
-
   module _ (fit : has_word c v ≡ true) where
     in-cube : (k : ℕ) → is_in c v k ≡ eqb (bit_of k c.pattern) 1
     in-cube k = ap (λ (b : Bool). b && eqb (bit_of k c.pattern) 1) fit
@@ -87,55 +71,6 @@ module _ (words m : ℕ) (c : Cube) (word v : ℕ) (ruled truths : List ℕ) whe
           place = k;
           within = below;
           both = (in-cube k ∙ eq-eqb (bit_of k c.pattern) 1 (omega (arith, parts)), omega (arith, parts));
-        }
-
--- What the answer says of the word.
-module _ (words m : ℕ) (c : Cube) (word v : ℕ) (ruled truths ruled' truths' : List ℕ) where
-  pub was-there : {r : Shares} → r ≡ Shared → PutIf r words m c word v ruled truths ruled' truths' → Meets c v ruled
-  was-there e = subst (λ (r : Shares). PutIf r words m c word v ruled truths ruled' truths') e
-
-  pub was-put : {r : Shares} → r ≡ Apart → PutIf r words m c word v ruled truths ruled' truths' → Put words m c word v ruled truths ruled' truths'
-  was-put e = subst (λ (r : Shares). PutIf r words m c word v ruled truths ruled' truths') e
-
--- Word by word.
-module _ (words m : ℕ) (c : Cube) (word : ℕ) (ruled truths : List ℕ) where
-  pub added_none : Added words m c word 0 ruled truths ruled truths
-  added_none =
-      record {
-        some = λ w k h g. absurd (omega arith);
-        each = λ j w k h g l. absurd (omega arith);
-        apart = λ w k h g. absurd (omega arith);
-        ruled-rest = λ w h. refl;
-        truths-rest = λ j w h g l. refl;
-      }
-
-  module _ (v : ℕ) (ruled' truths' : List ℕ) (r : Added words m c word v ruled truths ruled' truths') where
-    pub added-one : {ruled'' truths'' : List ℕ} → v < words → Put words m c word v ruled' truths' ruled'' truths'' →
-        Added words m c word (v + 1) ruled truths ruled'' truths''
-    added-one {ruled''} {truths''} inside p =
-        record {
-          some = λ w k h g l. by_cases (ℕ_discrete w v) (λ e. rw (e, ← ruled-was) (p.some k l))
-              (λ n. rw (p.ruled-rest w n) (r.some w k h (omega arith) l));
-          each = λ j w k i h g l. by_cases (ℕ_discrete w v) (λ e. rw (e, ← truths-was j i) (p.each j k i l))
-              (λ n. rw (p.truths-rest j w i h n) (r.each j w k i h (omega arith) l));
-          apart = λ w k h g l t. by_cases (ℕ_discrete w v) (λ e. rw (e, ← ruled-was) (p.apart k l (rw e at t)))
-              (λ n. r.apart w k h (omega arith) l t);
-          ruled-rest = λ w h. p.ruled-rest w (λ e. omega arith) ∙ r.ruled-rest w (omega arith);
-          truths-rest = λ j w i h g. p.truths-rest j w i h (λ e. omega arith) ∙ r.truths-rest j w i h (omega arith);
-        }
-      where
-        ruled-was : get_or ruled' v 0 ≡ get_or ruled v 0
-        ruled-was = r.ruled-rest v (omega arith)
-
-        truths-was : (j : ℕ) → j < m → get_or truths' (j * words + v) 0 ≡ get_or truths (j * words + v) 0
-        truths-was j h = r.truths-rest j v h inside (omega arith)
-
-    pub meets-before : Meets c v ruled' → Meets c v ruled
-    meets-before e =
-        record {
-          place = e.place;
-          within = e.within;
-          both = (e.both.0, ap (bit_of e.place) (sym (r.ruled-rest v (omega arith))) ∙ e.both.1);
         }
 
 -- What the answer says of all words.

@@ -1,9 +1,9 @@
 -- A pattern put into one word of some truth tables, one after the other.
-use Prim.Native.Nat.{ℕ, suc, ◌+◌, ◌*◌, ◌%◌, ◌≤◌, ◌<◌}
+use Prim.Native.Nat.{ℕ, suc, ◌+◌, ◌*◌, ◌%◌, ◌<◌}
 use native.Mathlib.Decide.{ℕ_discrete}
-use native.Mathlib.Nat.{mul-le-mul_right, suc-mul, add-mul}
+use native.Mathlib.Nat.{mul-le-mul_right, suc-mul}
 use native.Mathlib.Omega.{arith}
-use mathlib.Core.Path.{◌≡◌, refl, sym, ap, ◌∙◌}
+use mathlib.Core.Path.{◌≡◌, sym, ap, ◌∙◌}
 use mathlib.Core.Bool.{cond}
 use mathlib.Core.Logic.{by_cases}
 use mathlib.Core.List.{List}
@@ -14,16 +14,6 @@ use lib.Seq.{get_or-set_same, get_or-set_other}
 use Rattle.rulesheet.specs.Rules.{has_output}
 use Rattle.coverage.specs.Inner.Gathering.{Marked}
 
--- A word of a truth table has room, and the one of the next table stands so many words further on.
-pub word_room : (words m w j room : ℕ) → j < m → w < words → m * words ≤ room → j * words + w < room
-word_room words m w j room h g r = omega (arith, suc-mul j words, mul-le-mul_right {m = suc j} {n = m} words h)
-
-pub words-room : (words m j room : ℕ) → j < m → m * words ≤ room → words ≤ room
-words-room words m j room h r = omega (arith, suc-mul j words, mul-le-mul_right {m = suc j} {n = m} words h)
-
-pub next_word : (words w j : ℕ) → (j + 1) * words + w ≡ j * words + w + words
-next_word words w j = omega (arith, add-mul j 1 words)
-
 -- Words of two truth tables stand apart, and so do two words of one.
 pub tables-apart : (words w i j : ℕ) → w < words → i < j → i * words + w ≡ j * words + w → ⊥
 tables-apart words w i j h l e = omega (arith, suc-mul i words, mul-le-mul_right {m = suc i} {n = j} words l)
@@ -32,9 +22,6 @@ pub words-apart : (words v w i j : ℕ) → v < words → w < words → (v ≡ w
 words-apart words v w i j hv hw ne e = ne (sym (digits_mod i hv) ∙ ap (λ (a : ℕ). a % words) e ∙ digits_mod j hw)
 
 module _ (words w word pattern : ℕ) (inside : w < words) (before : List ℕ) where
-  pub marked-none : Marked words 0 w word pattern before before
-  marked-none = record { marked = λ j h. absurd (omega arith); others = λ p h. refl }
-
   module _ (j : ℕ) (after : List ℕ) (r : Marked words j w word pattern before after) where
     untouched : get_or after (j * words + w) 0 ≡ get_or before (j * words + w) 0
     untouched = r.others (j * words + w) (λ i h e. tables-apart words w i j inside h (sym e))

@@ -87,14 +87,15 @@ impl<const N: usize> Gathering<N> {
         }
     }
 
-    // Puts a pattern into word w of the truth tables of the outputs that a permit word has.
+    // Puts a pattern into word w of the truth tables of the outputs that a permit word has. An output's number is also the bit of the word.
     fn mark(&mut self, w: usize, word: u8, pattern: u64)
         requires { w < self.old.words }
         ensures same { (self.new.words ≡ self.old.words) × (self.new.outputs ≡ self.old.outputs) × (self.new.ruled ≡ self.old.ruled) }
         ensures marked { Marked self.old.words self.old.outputs w word pattern self.old.truths self.new.truths }
     {
+        let words = self.words;
         for j in 0..self.outputs {
-            mark_one(&mut self.truths, j * self.words + w, word, j, pattern);
+            mark_one(&mut self.truths, j * words + w, word, j, pattern);
         }
     }
 
@@ -117,7 +118,7 @@ impl<const N: usize> Gathering<N> {
         Shares::Apart
     }
 
-    // The same in every word, to the first input that fits a rule before.
+    // The same in every word, by its number, to the first input that fits a rule before.
     fn add(&mut self, rule: Rule) -> Shares
         ensures same { (self.new.words ≡ self.old.words) × (self.new.outputs ≡ self.old.outputs) }
         ensures added { AddedIf result self.old.words self.old.outputs rule.cube rule.word self.old.ruled self.old.truths self.new.ruled self.new.truths }

@@ -18,30 +18,17 @@ use Rattle.bits.proofs.Bits.{ones, bit-ones, bit-and, bit-not, bit-both}
 use Rattle.bits.proofs.Rails.{low_same}
 use Rattle.canonical.specs.Inner.Blocks.{input_at}
 use Rattle.rulesheet.specs.Rules.{accepts}
-use Rattle.cubes.specs.declared.Asked.TheVariants.{Open, Closed}
-use Rattle.cubes.specs.Inner.Cubes.{Low, asked_of, mask_digit, value_digit, High, CubeOf}
-
--- What a byte of a rule asks, and what it accepts.
-accepts-open : (c : ℕ) (b : Bool) → asked_of c ≡ Open → accepts c b ≡ not b
-accepts-open zero b e = refl
-accepts-open (suc zero) b e = cc
-accepts-open (suc (suc c)) b e = cc
-
-accepts-closed : (c : ℕ) (b : Bool) → asked_of c ≡ Closed → accepts c b ≡ b
-accepts-closed zero b e = cc
-accepts-closed (suc zero) b e = refl
-accepts-closed (suc (suc c)) b e = cc
+use Rattle.cubes.specs.Inner.Cubes.{Low, mask_digit, value_digit, High, CubeOf}
 
 -- A word without the inputs that a byte does not accept.
 module _ (k word closed c : ℕ) (a b : Bool) (h : k < 64) (ea : bit_of k word ≡ bit a) (eb : bit_of k closed ≡ bit b) where
-  pub narrowed-open : closed < 2 ^ 64 → asked_of c ≡ Open → bit_of k (bit_and word (ones - closed)) ≡ bit (a && accepts c b)
+  pub narrowed-open : closed < 2 ^ 64 → c ≡ 0 → bit_of k (bit_and word (ones - closed)) ≡ bit (a && accepts c b)
   narrowed-open small e =
       bit-and k word (ones - closed) ∙ ap₂ min ea (bit-not k closed b h small eb) ∙ bit-both a (not b)
-      ∙ ap (λ (t : Bool). bit (a && t)) (sym (accepts-open c b e))
+      ∙ ap (λ (c : ℕ). bit (a && accepts c b)) (sym e)
 
-  pub narrowed-closed : asked_of c ≡ Closed → bit_of k (bit_and word closed) ≡ bit (a && accepts c b)
-  narrowed-closed e =
-      bit-and k word closed ∙ ap₂ min ea eb ∙ bit-both a b ∙ ap (λ (t : Bool). bit (a && t)) (sym (accepts-closed c b e))
+  pub narrowed-closed : c ≡ 1 → bit_of k (bit_and word closed) ≡ bit (a && accepts c b)
+  narrowed-closed e = bit-and k word closed ∙ ap₂ min ea eb ∙ bit-both a b ∙ ap (λ (c : ℕ). bit (a && accepts c b)) (sym e)
 
 pub low-none : (n fixed : ℕ) (rule : List ℕ) → Low n fixed 0 rule ones
 low-none n fixed rule = record { bits = λ k h. bit-ones k h ∙ sym (ap bit (all_none _)) }

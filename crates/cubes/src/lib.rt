@@ -6,15 +6,7 @@ ghost use Rattle.std.specs.Int.Bits.{bit_and};
 ghost use Rattle.diagram.specs.Diagram.{bit};
 ghost use Rattle.bits.specs.Inner.Bits.{bit_of};
 ghost use Rattle.rulesheet.specs.Rules.{accepts};
-ghost use Rattle.cubes.specs.Inner.Cubes.{Low, asked_of, mask_digit, value_digit, High, CubeOf};
-
-// What a rule's byte asks of a contact.
-#[derive(Clone, Copy, Drop)]
-enum Asked {
-    Open,
-    Closed,
-    Either,
-}
+ghost use Rattle.cubes.specs.Inner.Cubes.{Low, mask_digit, value_digit, High, CubeOf};
 
 // The words whose number has `value` where `mask` is set.
 #[derive(Clone, Copy, Drop)]
@@ -30,18 +22,6 @@ pub struct Cube {
     pub pattern: u64,
 }
 
-impl From<u8> for Asked {
-    ghost from_gives = { λ byte asked. asked ≡ asked_of byte };
-
-    fn from(byte: u8) -> Self {
-        match byte {
-            0 => Asked::Open,
-            1 => Asked::Closed,
-            _ => Asked::Either,
-        }
-    }
-}
-
 impl Words {
     // Whether it has a word, by its number.
     pub fn has(self, word: usize) -> bool
@@ -55,10 +35,10 @@ impl Words {
         requires { (self.mask < 64) × (self.value < 64) }
         ensures { (result.mask ≡ 2 * self.mask + mask_digit byte) × (result.value ≡ 2 * self.value + value_digit byte) }
     {
-        let (mask, value) = match Asked::from(byte) {
-            Asked::Open => (1, 0),
-            Asked::Closed => (1, 1),
-            Asked::Either => (0, 0),
+        let (mask, value) = match byte {
+            0 => (1, 0),
+            1 => (1, 1),
+            _ => (0, 0),
         };
         Words {
             mask: 2 * self.mask + mask,
@@ -67,19 +47,20 @@ impl Words {
     }
 }
 
-// A word of inputs without those that a rule's byte for a contact does not fit, given where the contact is closed.
+// A word of inputs without those that a rule's byte for a contact does not fit, given where the contact is closed. The byte stays a byte:
+// with an enum of its three meanings from-rules was slower.
 fn narrow(word: u64, byte: u8, closed: u64) -> u64
     ensures { (k : ℕ) (a b : Bool) → k < 64 → bit_of k word ≡ bit a → bit_of k closed ≡ bit b →
         bit_of k result ≡ bit (a && accepts byte b) }
 {
-    match Asked::from(byte) {
-        Asked::Open => word & !closed,
-        Asked::Closed => word & closed,
-        Asked::Either => word,
+    match byte {
+        0 => word & !closed,
+        1 => word & closed,
+        _ => word,
     }
 }
 
-// The inputs of a word that fit a rule by the last contacts.
+// The inputs of a word that fit a rule by the last contacts, each by its number, which its rail is given by too.
 fn pattern_of(rule: &[u8], n: usize, fixed: usize) -> u64
     requires { (n ≤ 12) × (fixed ≡ n - 6) × (n ≤ length rule.now) }
     ensures { Low n fixed (n - fixed) rule.now result }

@@ -9,7 +9,7 @@ use denote.Ref.{Bor}
 use denote.Param.Members.{Mut, Called}
 use Rattle.std.specs.declared.option.Option.{Option}
 use Rattle.std.specs.declared.option.Option.TheVariants.{Some, None}
-use Rattle.std.specs.Option.{MatchOption, IfSome, option_map, unwrap_or}
+use Rattle.std.specs.Option.{MatchOption, IfSome, option_map}
 use Rattle.std.specs.Bool.{MatchBool, IsTrue}
 use Rattle.std.specs.List.{IsSubsliceAt}
 use Rattle.std.specs.declared.slice.ChunksExact.{ChunksExact}
@@ -82,11 +82,11 @@ module _ (xs : List ℕ) (s : ChunksExact ℕ) (rest : chunks_exact_rest s ≡ x
           let (x, e, c) = item p from i (omega (arith, m.0)) in (
             omega (arith, c.within),
             least-is test
-            (record {
-              below = omega (arith, c.within);
-              passes = told true c (rw e at hit);
-              none = λ k h.
-                  let (x, e, c) = item p from k (omega (arith, m.0)) in
-                  told false c (rw e at (misses k h));
-            }),
+                (record {
+                  below = omega (arith, c.within);
+                  passes = told true c (rw e at hit);
+                  none = λ k h.
+                      let (x, e, c) = item p from k (omega (arith, m.0)) in
+                      told false c (rw e at (misses k h));
+                }),
           )

@@ -13,7 +13,8 @@ pub use sound::{Numbering, Range};
 
 // A decoded table. Level l has widths[l] nodes, and its edges stand from 16 l on: 16 l + 2 u is the 0-edge of node u,
 // 16 l + 2 u + 1 its 1-edge. Output j starts at node roots[j] of level 0. What lies past the counts is 0.
-// It holds no proof that it keeps the limits: definitions and promises speak of diagrams beyond them, too.
+// Arrays of a fixed length with their counts, since nothing is allocated. No field says that the limits are kept: the promises name
+// these fields, and speak of diagrams beyond the limits, too.
 #[derive(Clone, Copy, Drop)]
 pub struct Diagram {
     pub contacts: usize,

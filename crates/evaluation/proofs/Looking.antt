@@ -10,6 +10,7 @@ use mathlib.Core.Logic.{⊎_elim, by_cases}
 use borrow.Author.Tests.{eq-eqb, ne_eqb, lt-ltb, le-ltb}
 use lib.Dec.{eqb}
 use lib.ListN.{length}
+use Rattle.std.specs.Prelude.{Some, None}
 use Rattle.fields.specs.Bounded.{listed}
 use Rattle.netlist.specs.declared.Hold.{Hold}
 use Rattle.netlist.specs.Netlist.{hold_at, holds_of, site_of, level_of}
@@ -17,7 +18,8 @@ use Rattle.drive.specs.Questions.{rank_of, are_holds}
 use Rattle.drive.proofs.Tests.{rank-line, rank-pin, holds_at}
 use Rattle.simulation.specs.Run.{held}
 use Rattle.evaluation.specs.Inner.Walk.{site_rank, rank_at, IsNext, Sorted, Behind, Ahead, Looks}
-use Rattle.evaluation.specs.declared.ranks.Looked.{Looked}
+use Rattle.evaluation.specs.declared.board.Board.{Board}
+use Rattle.evaluation.specs.declared.ranks.Next.{Next}
 
 -- A hold's rank tells its line and site.
 rank-tells : (h : Hold) (line site : ℕ) → h.value ≤ 5 → h.line < 65536 → line < 65536 → site ≤ 2 → rank_of h ≡ site_rank line site →
@@ -89,6 +91,12 @@ sorted first lines holds few ok =
         ⊎_elim (λ (e : suc i ≡ suc j). let z : i ≡ j = omega arith in rw z (step j h))
         (λ m. let a = rising i j (omega arith) (omega arith) in let b = step j h in omega arith) (eq-or-lt_of_le l)
 
+-- A board's holds are sorted.
+pub in_order : (b : Board) → Sorted b.holds.now
+in_order b =
+    let ready = b.ready in
+    sorted (2 + length b.rails.now) (2 + length b.rails.now + length b.gates.now / 5) b.holds.now (omega (arith, ready.few, ready.many)) ready.sorted
+
 module _ (holds : List ℕ) (ok : Sorted holds) where
   rank-here : (i : ℕ) → i < length holds / 3 → rank_at holds i ≡ rank_of (hold_at holds i)
   rank-here i l = ap (λ (b : Bool). cond b (rank_of (hold_at holds i)) 262144) (lt-ltb i (length holds / 3) l)
@@ -128,18 +136,17 @@ module _ (holds : List ℕ) (ok : Sorted holds) where
 
   -- The hold at a place is of the rank, or none is.
   module _ (rank i : ℕ) (few : rank < 262144) (a : Ahead holds rank i) where
-    pub missed : (v : ℕ) (r : Looked) → r.value ≡ v → r.next.at ≡ i → IsNext holds r.next → (rank_at holds i ≡ rank → ⊥) →
-        Looks holds rank v r
+    pub missed : (n : Next) → n.at ≡ i → IsNext holds n → (rank_at holds i ≡ rank → ⊥) → Looks holds rank None n
     unfolding holds_of
-    missed v r e f is ne =
+    missed n f is ne =
         let over : (k : ℕ) → i ≤ k → k < length holds / 3 → rank < rank_of (hold_at holds k) = λ k m h.
         ⊎_elim
         (λ (q : i ≡ k).
         let s = rank-here i (omega arith) in let t = a.from i (omega arith) (omega arith) in rw (sym q) (omega arith))
         (λ n. let s = ok.rising i k n h in let t = a.from i (omega arith) (omega arith) in omega arith) (eq-or-lt_of_le m) in
         record {
-          has = λ line site s _ _.
-              e ∙ sym (held_none (hold_at holds) line site v (length holds / 3) 0 (λ k l h q.
+          is-held = λ line site v s _ _.
+              sym (held_none (hold_at holds) line site v (length holds / 3) 0 (λ k l h q.
               by_cases (dec_lt k i) (λ n. let t = a.behind k n (omega arith) in absurd (omega arith))
               (λ n. let t = over k (omega arith) (omega arith) in absurd (omega arith))));
           awaits = record {
@@ -148,14 +155,14 @@ module _ (holds : List ℕ) (ok : Sorted holds) where
           };
         }
 
-    pub met : (v : ℕ) (r : Looked) → rank_at holds i ≡ rank → r.value ≡ level_of (hold_at holds i) → r.next.at ≡ i + 1 →
-        IsNext holds r.next → Looks holds rank v r
+    pub met : (value : ℕ) (n : Next) → rank_at holds i ≡ rank → value ≡ level_of (hold_at holds i) → n.at ≡ i + 1 → IsNext holds n →
+        Looks holds rank (Some value) n
     unfolding holds_of
-    met v r e f g is =
+    met value n e f g is =
         let l : i < length holds / 3 = inside i (omega arith) in
         let at : rank_of (hold_at holds i) ≡ rank = sym (rank-here i l) ∙ e in
         record {
-          has = λ line site s hl hs.
+          is-held = λ line site v s hl hs.
               let (p, q) = rank-tells (hold_at holds i) line site (ok.values i l) (ok.lines i l) hl hs (at ∙ s) in
               f ∙ sym (held_found (hold_at holds) line site v (length holds / 3) 0 i (omega arith) (omega arith) p q (λ j _ m z.
               let t = a.behind j m (omega arith) in omega arith));

@@ -1,24 +1,20 @@
 -- One line more of a buffer, a rail's or a gate's, with whatever is held of it.
-use native.Mathlib.Nat.{eq-or-lt_of_le}
 use native.Mathlib.Omega.{arith}
 use Prim.Native.Nat.{ℕ, ◌+◌, ◌-◌, ◌/◌, ◌≤◌, ◌<◌}
 use mathlib.Core.Path.{◌≡◌, sym, ap, ap₂, ◌∙◌}
 use mathlib.Core.Bool.{true}
-use mathlib.Core.List.{List, []}
-use mathlib.Core.Logic.{⊎_elim}
-use lib.ListN.{length, get_or, take, drop, set}
-use Rattle.fields.specs.Bounded.{listed}
-use Rattle.files.specs.Room.{over}
+use mathlib.Core.List.{List}
+use lib.ListN.{length, get_or, set}
 use Rattle.netlist.specs.declared.Gate.{Gate}
 use Rattle.netlist.specs.declared.Hold.{Hold}
 use Rattle.netlist.specs.Netlist.{gate_at, gates_of}
 use Rattle.netlist.proofs.Lists.{length-gates, get_or-gates}
 use Rattle.wiring.specs.Questions.{are_gates}
 use Rattle.wiring.proofs.Tests.{gates-at}
-use Rattle.simulation.specs.Run.{Driver, rail, gate, drive, work_out, gate_of, held, drivers_of}
+use Rattle.simulation.specs.Run.{Driver, rail, gate, drive, gate_of, held, drivers_of}
 use Rattle.simulation.specs.Service.{read_back}
 use Rattle.evaluation.specs.Inner.Walk.{reading, worked_over}
-use Rattle.simulation.proofs.Worked.{up_to, length_up, none-worked, line-worked, source-worked, further, length-drivers, rail-driver, gate-driver, rails-part}
+use Rattle.simulation.proofs.Worked.{up_to, length_up, none-worked, line-worked, source-worked, further, length-drivers, rail-driver, gate-driver}
 
 module _ (holds : List Hold) (rails gates : List ℕ) (from : ℕ) (after : 2 ≤ from) (buffer : List ℕ) where
   abbrev D : List (Driver ℕ)
@@ -61,18 +57,6 @@ module _ (holds : List Hold) (rails gates : List ℕ) (from : ℕ) (after : 2 �
         (rw (its, size)
         (w ∙ ap₂ (λ (a b : ℕ). held holds x 0 (gate_of m.kind (read_back (held holds x 1 a)) (read_back (held holds x 2 b))))
         (known _ (rw q (omega (arith, on.left)))) (known _ (rw q (omega (arith, on.right))))))
-
--- Rails alone, if any line.
-pub only-rails : (holds : List Hold) (rails gates : List ℕ) (from to : ℕ) → 2 ≤ from → from ≤ to → (from < to → to ≤ 2 + length rails) →
-    (buffer : List ℕ) → worked_over holds rails [] from to buffer ≡ worked_over holds rails gates from to buffer
-unfolding gates_of listed
-only-rails holds rails gates from to a l h buffer =
-    ap (λ (ds : List (Driver ℕ)). over (work_out (reading holds) ds (take from buffer)) buffer)
-    (⊎_elim
-    (λ (e : from ≡ to).
-    let none : to - from ≡ 0 = omega arith in
-    ap (λ (k : ℕ). take k (drop (from - 2) (drivers_of rails []))) none ∙ sym (ap (λ (k : ℕ). take k (drop (from - 2) (drivers_of rails (gates_of gates)))) none))
-    (λ m. rails-part rails (gates_of gates) from to l a (h m)) (eq-or-lt_of_le l))
 
 -- Further lines.
 pub further-put : (holds : List Hold) (rails gates : List ℕ) (from mid to : ℕ) → 2 ≤ from → from ≤ mid → mid ≤ to →

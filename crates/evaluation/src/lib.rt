@@ -1,6 +1,7 @@
 // The lines of a netlist worked out, with lines and pins held.
 #![tactic(auto)]
 
+mod board;
 mod lines;
 mod ranks;
 

@@ -61,7 +61,7 @@ fn count_if_ended(file: &[u8], at: usize, count: usize) -> Option<usize>
     (0 < count && files::ends_at(file, at)).then_some(count)
 }
 
-// The count of the rules from a place on, 1 to 64, if what stands there is so formed.
+// The count of the rules from a place on, 1 to 64, if what stands there is so formed. What is counted is the answer.
 fn count_rules(file: &[u8], at: usize, n: usize, m: usize) -> Option<usize>
     requires { (n ≤ 12) × (m ≤ 8) }
     ensures { result ≡ rules_counted n m (fields_from file.now at) }

@@ -2,10 +2,14 @@
 use Prim.Native.Nat.{ℕ, zero, suc, ◌+◌, ◌*◌, ◌≤◌, ◌<◌, min}
 use native.Mathlib.Nat.{zero-add, suc-add, zero-min, min-zero, suc-min-suc}
 use native.Mathlib.Omega.{arith}
-use mathlib.Core.Path.{◌≡◌, refl, ap, ◌∙◌}
-use mathlib.Core.List.{List, [], ◌∷◌, ◌++◌, flat_map}
+use mathlib.Core.Path.{◌≡◌, refl, sym, ap, ◌∙◌}
+use mathlib.Core.List.{List, [], ◌∷◌, ◌++◌, flat_map, append_assoc}
 use lib.ListN.{length, get_or, take, drop, set, replicate}
 use lib.Seq.{paste}
+use borrow.Rule.Slice.PartMut.{put_mid, mid_of}
+use Rattle.std.proofs.Common.{length-take, length-drop, take-append-drop}
+use Rattle.std.proofs.lemmas.List.{drop-append-le}
+use lib.Seq.{drop-drop}
 use Rattle.fields.proofs.Parts.{length-parts, part_at}
 use Rattle.table.specs.Table.{padded}
 
@@ -74,6 +78,26 @@ padded-paste n m [] v h = rw (zero-add (min m (length v))) (over-blank m n v (om
 padded-paste zero m (x ∷ xs) v h = absurd (omega arith)
 padded-paste (suc n) m (x ∷ xs) v h =
     rw (suc-add (length xs) (min m (length v))) (ap {B = List ℕ} (λ r. x ∷ r) (padded-paste n m xs v (omega arith)))
+
+-- A value copied to the front of a part of m places, as far as there is room.
+module _ (a m : ℕ) (xs v : List ℕ) (room : a + m ≤ length xs) (k : ℕ) (size : k ≡ m) where
+  part-long : length (mid_of a k xs) ≡ m
+  part-long = simp (length-take, length-drop) (omega arith)
+
+  rest-is : (n : ℕ) → n ≤ m → drop (0 + n) (mid_of a k xs) ++ drop k (drop a xs) ≡ drop (a + n) xs
+  rest-is n h =
+      let within : n ≤ length (mid_of a k xs) = omega (arith, part-long) in
+      rw (zero-add n) (sym (drop-append-le n (mid_of a k xs) (drop k (drop a xs)) within)
+      ∙ ap (drop n) (take-append-drop k (drop a xs)) ∙ drop-drop n a xs)
+
+  pub put_mid-front : {ys : List ℕ} → ys ≡ paste (mid_of a k xs) 0 v (min (length (mid_of a k xs)) (length v)) →
+      put_mid a k xs ys ≡ paste xs a v (min m (length v))
+  put_mid-front e =
+      let n = min m (length v) in
+      rw (e, part-long)
+      (ap (λ (l : List ℕ). take a xs ++ l)
+      (append_assoc (take n v) (drop (0 + n) (mid_of a k xs)) (drop k (drop a xs)) ∙ ap (λ (l : List ℕ). take n v ++ l) (rest-is n (omega arith)))
+      ∙ sym (append_assoc (take a xs) (take n v) (drop (a + n) xs)))
 
 padded-padded : (n : ℕ) (l : List ℕ) → padded n (padded n l) ≡ padded n l
 unfolding padded

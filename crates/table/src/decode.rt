@@ -1,5 +1,5 @@
 // The diagram that a table file holds.
-ghost use Rattle.std.specs.Prelude.{◌≡◌, ◌+◌, ◌≤◌, min, length, replicate};
+ghost use Rattle.std.specs.Prelude.{◌≡◌, min, length, replicate};
 ghost use Rattle.std.proofs.Math.Seq.{paste};
 ghost use Rattle.fields.specs.Fields.{fields_of};
 ghost use Rattle.table.specs.Table.{widths_of, edges_of, diagram_in};
@@ -7,17 +7,16 @@ ghost use Rattle.table.specs.Table.{widths_of, edges_of, diagram_in};
 use diagram::Diagram;
 use fields::{Cursor, Step};
 
-// Copies the first bytes of value, at most so many, to dst from a place on.
-fn put(dst: &mut [u8], at: usize, value: &[u8], most: usize)
-    requires { at + most ≤ length dst.old }
-    ensures { dst.new
-        ≡ paste dst.old at value.now (min most (length value.now)) }
+// Copies a value to the front of dst, as far as there is room.
+fn put(dst: &mut [u8], value: &[u8])
+    ensures { dst.new ≡ paste dst.old 0 value.now (min (length dst.old) (length value.now)) }
 {
-    let count = most.min(value.len());
-    dst[at..at + count].copy_from_slice(&value[..count]);
+    let count = dst.len().min(value.len());
+    dst[..count].copy_from_slice(&value[..count]);
 }
 
-// Lays out each level's width, and its edges from 16 l on.
+// Lays out each level's width, and its edges from 16 l on. A level is a number here, for a proof knows nothing of what stands behind
+// the chunks of a slice that is written.
 fn lay_levels(file: &[u8], widths: &mut [usize], edges: &mut [u8])
     requires { (widths.old ≡ replicate 12 0) × (edges.old ≡ replicate 192 0) }
     ensures widths_after { widths.new ≡ widths_of (fields_of file.now).items }
@@ -30,7 +29,7 @@ fn lay_levels(file: &[u8], widths: &mut [usize], edges: &mut [u8])
         };
         let value = fields::value(file, field);
         widths[level] = value.len() / 2;
-        put(edges, level * 16, value, 16);
+        put(&mut edges[level * 16..level * 16 + 16], value);
         cursor = moved;
     }
 }
@@ -41,7 +40,7 @@ pub fn diagram(file: &[u8]) -> Diagram
 {
     let outputs = reader::nth(file, 1);
     let mut roots = [0u8; 8];
-    put(&mut roots, 0, outputs, 8);
+    put(&mut roots, outputs);
     let mut widths = [0usize; 12];
     let mut edges = [0u8; 192];
     lay_levels(file, &mut widths, &mut edges);

@@ -1,10 +1,10 @@
 // The number that a drawing gets and the length of its table; then the lent bytes, points where nothing is written.
 ghost use Rattle.std.specs.Prelude.{◌≡◌, ◌≤◌, length, IfOk, OnErr};
 
-use files::Written;
+use files::Refusal;
 use std::io;
 use std::io::Write;
-use text::print::Signs;
+use text::print::{Outcome, Signs};
 use text::spelling;
 
 // The table of a drawing.
@@ -15,7 +15,7 @@ pub fn show<W: Write>(out: &mut W, drawing: &[u8], case: &[u8]) -> io::Result<()
 }
 
 // The table that a service makes of a file, in as many lent bytes as the case says.
-pub fn show_table<W: Write, F: FnOnce(&[u8], &mut [u8]) -> Written>(
+pub fn show_table<W: Write, F: FnOnce(&[u8], &mut [u8]) -> Result<u32, Refusal>>(
     out: &mut W,
     file: &[u8],
     case: &[u8],
@@ -27,13 +27,7 @@ pub fn show_table<W: Write, F: FnOnce(&[u8], &mut [u8]) -> Written>(
     let mut lent = [b'.'; 243];
     let table = &mut lent[..room];
     let made = make(file, table);
-    write!(
-        out,
-        ": {}, bytes {}, table {}",
-        made.refusal,
-        made.length,
-        Signs(table)
-    )
+    write!(out, "{}, table {}", Outcome(made, "bytes"), Signs(table))
 }
 
 // That of a row of nodes.
@@ -44,7 +38,7 @@ pub fn show_row<W: Write>(out: &mut W, case: &[u8]) -> io::Result<()> {
 }
 
 // Writes a drawing with twelve contacts, one output, the last number, and so many nodes of three bytes 0, which lead to the constant 0,
-// over bytes 0; returns its length. The case's first part says how many nodes.
+// over bytes 0; returns its length, as runs::put_row does. The case's first part says how many nodes.
 fn put_row<W: Write>(out: &mut W, case: &[u8], file: &mut [u8; 623]) -> io::Result<usize>
     ensures ok { IfOk result (λ n. n ≤ length file.new) }
     ensures err { OnErr result (file.new ≡ file.old) }

@@ -5,7 +5,7 @@ ghost use Rattle.std.specs.Prelude.{◌≡◌, ◌≤◌, length, IfOk, OnErr};
 use std::io;
 use std::io::Write;
 use text::print::Signs;
-use text::spelling;
+use text::{print, spelling};
 
 // A run of a netlist with what else the case says.
 pub fn show<W: Write>(out: &mut W, netlist: &[u8], case: &[u8]) -> io::Result<()> {
@@ -15,7 +15,7 @@ pub fn show<W: Write>(out: &mut W, netlist: &[u8], case: &[u8]) -> io::Result<()
     let mut pairs = [b'.'; 10609];
     let lines = &mut lines[..lines_len];
     let pairs = &mut pairs[..pairs_len];
-    let refusal = run::run(
+    let ran = run::run(
         netlist,
         reader::nth(case, 4),
         reader::nth(case, 3),
@@ -25,7 +25,8 @@ pub fn show<W: Write>(out: &mut W, netlist: &[u8], case: &[u8]) -> io::Result<()
     let from = spelling::number(out, case, 2, 10610)?;
     write!(
         out,
-        ": {refusal}, lines {}, pairs {}",
+        ": {}, lines {}, pairs {}",
+        print::refusal(&ran),
         Signs(&lines[from.min(lines_len)..]),
         Signs(pairs)
     )
@@ -39,7 +40,8 @@ pub fn show_row<W: Write>(out: &mut W, case: &[u8]) -> io::Result<()> {
 }
 
 // Writes a netlist with one contact, so many gates of five bytes 0, ANDs of the constant 0, and one output, the last line and the
-// false rail, over bytes 0; returns its length. The case's first part says how many gates.
+// false rail, over bytes 0; returns its length, since no clause could speak of a file that is lent on. The case's first part says how
+// many gates.
 pub fn put_row<W: Write>(out: &mut W, case: &[u8], file: &mut [u8; 53029]) -> io::Result<usize>
     ensures ok { IfOk result (λ n. n ≤ length file.new) }
     ensures err { OnErr result (file.new ≡ file.old) }

@@ -7,6 +7,7 @@ use crate::runs;
 use std::io;
 use std::io::Write;
 use std::ops::Range;
+use text::print::Outcome;
 use text::{print, spelling};
 
 // A netlist's sheet, and what is left of the buffer behind it.
@@ -36,8 +37,8 @@ fn show_part<W: Write>(
     let mut lent = [b'.'; 238128];
     let sheet = &mut lent[..room];
     let written = sheet::sheet(netlist, sheet);
-    write!(out, ": {}, bytes {}", written.refusal, written.length)?;
-    if written.refusal != 0 {
+    write!(out, "{}", Outcome(written, "bytes"))?;
+    if written.is_err() {
         return write!(out, ", kept {}", print::kept(sheet));
     }
     writeln!(out)?;

@@ -3,10 +3,10 @@
 ghost use Rattle.std.specs.Prelude.{◌≡◌, ◌≤◌, length, IfOk, OnErr};
 
 use crate::runs;
-use run::Stepped;
+use files::Refusal;
 use std::io;
 use std::io::Write;
-use text::print::{Signs, Spelt};
+use text::print::{Outcome, Signs, Spelt};
 use text::spelling;
 
 // A step with buffers that have the bytes of the case's parts.
@@ -16,8 +16,13 @@ pub fn show<W: Write>(out: &mut W, netlist: &[u8], case: &[u8]) -> io::Result<()
     let lines = lend(out, reader::nth(case, 3), &mut lines)?;
     let pairs = lend(out, reader::nth(case, 6), &mut pairs)?;
     let stepped = step(out, netlist, case, lines, pairs)?;
-    show_place(out, stepped)?;
-    write!(out, ", lines {}, pairs {}", Spelt(lines), Spelt(pairs))
+    write!(
+        out,
+        "{}, lines {}, pairs {}",
+        Outcome(stepped, "place"),
+        Spelt(lines),
+        Spelt(pairs)
+    )
 }
 
 // A step of a row of gates with buffers of points, the first shown from a place on.
@@ -32,23 +37,23 @@ pub fn show_row<W: Write>(out: &mut W, case: &[u8]) -> io::Result<()> {
     let pairs = &mut pairs[..pairs_len];
     let stepped = step(out, &file[..len], case, lines, pairs)?;
     let from = spelling::number(out, case, 7, 10610)?;
-    show_place(out, stepped)?;
     write!(
         out,
-        ", lines {}, pairs {}",
+        "{}, lines {}, pairs {}",
+        Outcome(stepped, "place"),
         Signs(&lines[from.min(lines_len)..]),
         Signs(pairs)
     )
 }
 
-// A step with the case's place, count, holds and rails.
+// A step with the case's place, count, holds and rails. An error of the outside is that of the writing.
 fn step<W: Write>(
     out: &mut W,
     netlist: &[u8],
     case: &[u8],
     lines: &mut [u8],
     pairs: &mut [u8],
-) -> io::Result<Stepped>
+) -> io::Result<Result<u32, Refusal>>
     ensures { OnErr result ((lines.new ≡ lines.old) × (pairs.new ≡ pairs.old)) }
 {
     let place = spelling::number(out, case, 1, 4_294_967_296)? as u32;
@@ -62,10 +67,6 @@ fn step<W: Write>(
         lines,
         pairs,
     ))
-}
-
-fn show_place<W: Write>(out: &mut W, stepped: Stepped) -> io::Result<()> {
-    write!(out, ": {}, place {}", stepped.refusal, stepped.place)
 }
 
 // Copies a part to a buffer's start, and lends that.

@@ -6,20 +6,12 @@ use Rattle.diagram.specs.Diagram.{bit, input_of}
 use Rattle.bits.specs.Inner.Bits.{bit_of}
 use Rattle.canonical.specs.Inner.Blocks.{input_at}
 use Rattle.rulesheet.specs.Rules.{accepts, fits}
-use Rattle.cubes.specs.declared.Asked.{Asked}
-use Rattle.cubes.specs.declared.Asked.TheVariants.{Open, Closed, Either}
 use Rattle.cubes.specs.declared.Cube.{Cube}
 
 -- A word that is 1 where the last contacts fit a rule: those from `fixed` on, so many.
 pub record Low (n fixed count : ℕ) (rule : List ℕ) (pattern : ℕ) : Type 0 where
   pub bits : (k : ℕ) → k < 64 →
       bit_of k pattern ≡ bit (all count (λ i. accepts (get_or rule (fixed + i) 0) (input_of k (n - suc (fixed + i)))))
-
--- What a rule's byte asks of a contact.
-abbrev pub asked_of : ℕ → Asked
-asked_of zero = Open
-asked_of (suc zero) = Closed
-asked_of (suc (suc c)) = Either
 
 -- The digits of the mask and of the value that a rule's byte gives.
 abbrev pub mask_digit : ℕ → ℕ

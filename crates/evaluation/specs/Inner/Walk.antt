@@ -1,13 +1,14 @@
 -- Lines and holds walked together: the holds are sorted by rank, lines before pins, so a walk awaits one of each.
-use Rattle.std.specs.Prelude.{ℕ, ◌+◌, ◌*◌, ◌-◌, ◌/◌, ◌≤◌, ◌<◌, ◌≡◌, true, cond, List, ◌++◌, map, eqb, ltb, length, get_or, take, drop}
+use Rattle.std.specs.Option.{unwrap_or}
+use Rattle.std.specs.Prelude.{Option, ℕ, ◌+◌, ◌*◌, ◌-◌, ◌/◌, ◌≤◌, ◌<◌, ◌≡◌, cond, List, ◌++◌, map, eqb, ltb, length, get_or, take, drop}
 use Rattle.files.specs.Room.{over}
 use Rattle.netlist.specs.declared.Hold.{Hold}
-use Rattle.netlist.specs.Netlist.{hold_at, holds_of, gates_of}
-use Rattle.wiring.specs.Questions.{are_gates}
-use Rattle.drive.specs.Questions.{rank_of, are_holds}
+use Rattle.netlist.specs.Netlist.{gate_at, hold_at, holds_of, gates_of}
+use Rattle.drive.specs.Questions.{rank_of}
 use Rattle.simulation.specs.Run.{Rule, gate_of, holding, drivers_of, work_out, held}
 use Rattle.simulation.specs.Service.{read_back, lines_before}
-use Rattle.evaluation.specs.declared.ranks.Looked.{Looked}
+pub use Rattle.evaluation.specs.Inner.Ready.{Ready}
+use Rattle.evaluation.specs.declared.board.Board.{Board}
 use Rattle.evaluation.specs.declared.ranks.Next.{Next}
 use Rattle.evaluation.specs.declared.lines.Cursor.{Cursor}
 
@@ -42,10 +43,10 @@ pub record Awaits (holds : List ℕ) (rank : ℕ) (n : Next) : Type 0 where
   pub is : IsNext holds n
   pub ahead : Ahead holds rank n.at
 
--- What a site of this rank has that would have a value, and the hold after it.
-pub record Looks (holds : List ℕ) (rank value : ℕ) (r : Looked) : Type 0 where
-  pub has : (line site : ℕ) → rank ≡ site_rank line site → line < 65536 → site ≤ 2 → r.value ≡ held (holds_of holds) line site value
-  pub awaits : Awaits holds (rank + 1) r.next
+-- The value that a site of this rank is held at, if it is, and the hold after it.
+pub record Looks (holds : List ℕ) (rank : ℕ) (value : Option ℕ) (next : Next) : Type 0 where
+  pub is-held : (line site v : ℕ) → rank ≡ site_rank line site → line < 65536 → site ≤ 2 → unwrap_or value v ≡ held (holds_of holds) line site v
+  pub awaits : Awaits holds (rank + 1) next
 
 -- The holds that a walk awaits at a line.
 pub record Walks (holds : List ℕ) (line : ℕ) (c : Cursor) : Type 0 where
@@ -70,6 +71,22 @@ abbrev pub worked_over : List Hold → List ℕ → List ℕ → ℕ → ℕ →
 worked_over holds rails gates from to buffer =
     over (work_out (reading holds) (take (to - from) (drop (from - 2) (drivers_of rails (gates_of gates)))) (take from buffer)) buffer
 
+-- The line of a board's first gate, the line after its last, what the gate of a line makes of its sources, and a buffer whose lines from
+-- one to another are worked out.
+abbrev pub first_of : Board → ℕ
+first_of b = 2 + length b.rails.now
+
+abbrev pub end_of : Board → ℕ
+end_of b = first_of b + length b.gates.now / 5
+
+abbrev pub made_by : Board → ℕ → List ℕ → ℕ
+made_by b line lines =
+    let m = gate_at b.gates.now (line - first_of b) in
+    gate_of m.kind (read_back (get_or lines m.left 0)) (read_back (get_or lines m.right 0))
+
+abbrev pub worked : Board → ℕ → ℕ → List ℕ → List ℕ
+worked b = worked_over (holds_of b.holds.now) b.rails.now b.gates.now
+
 -- The same with the constants set, by the run rule on the values that the bytes before them are read as.
 abbrev pub stepped_over : List Hold → List ℕ → List ℕ → ℕ → ℕ → List ℕ → List ℕ
 stepped_over holds rails gates from to buffer =
@@ -79,12 +96,3 @@ stepped_over holds rails gates from to buffer =
     ++ drop from
     (work_out (holding holds) (take (to - from) (drop (from - 2) (drivers_of rails (gates_of gates)))) (map read_back before)))
     buffer
-
--- What lines are worked out from: rails of 0 and 1, gates whose sources are below their own lines, sorted holds, and room.
-pub record Ready (gates rails holds : List ℕ) (room : ℕ) : Type 0 where
-  pub few : length rails ≤ 24
-  pub many : length gates / 5 ≤ 10602
-  pub fits : 2 + length rails + length gates / 5 ≤ room
-  pub bits : (i : ℕ) → get_or rails i 0 ≤ 1
-  pub wired : are_gates (2 + length rails) gates ≡ true
-  pub sorted : are_holds (2 + length rails) (2 + length rails + length gates / 5) holds ≡ true

@@ -1,6 +1,6 @@
 -- `ask` meets its contract: each return is the first no that the answers lead to.
-use Prim.Native.Nat.{◌+◌, ◌*◌, ◌/◌}
-use mathlib.Core.Path.{◌≡◌, sym, ◌∙◌}
+use Prim.Native.Nat.{ℕ, ◌+◌, ◌*◌, ◌/◌}
+use mathlib.Core.Path.{◌≡◌, sym, ap, ◌∙◌}
 use lib.ListN.{length}
 use Rattle.fields.specs.Refusals.{first_no}
 use Rattle.files.specs.Room.{room_of}
@@ -16,15 +16,15 @@ ordered c = sym (rw (c.gate_line.ensures, c.line_count-count.ensures) at c.ask_h
 
 within : (c : After-ask_place) → let p = c.args.parts.now in
     place_of (gate_line p.contacts + length p.gates.now / 5) c.args.place ≡ c.ask_place.result
-within c = sym (rw c.line_count-count.ensures at c.ask_place.ensures)
+within c = sym (c.ask_place.ensures ∙ ap (λ (k : ℕ). place_of k c.args.place) c.line_count-count.ensures)
 
 lines_fit : (c : After-ask_room) → let p = c.args.parts.now in
     room_of (gate_line p.contacts + length p.gates.now / 5) c.args.lines ≡ c.ask_room.result
-lines_fit c = sym (rw c.line_count-count.ensures at c.ask_room.ensures)
+lines_fit c = sym (c.ask_room.ensures ∙ ap (λ (k : ℕ). room_of k c.args.lines) c.line_count-count.ensures)
 
 pairs_fit : (c : After-ask_room-2) → let p = c.args.parts.now in
     room_of (2 * (length p.outputs.now / 4 + length p.lamp.now / 4)) c.args.pairs ≡ c.ask_room-2.result
-pairs_fit c = sym (rw c.pair_count.ensures at c.ask_room-2.ensures)
+pairs_fit c = sym (c.ask_room-2.ensures ∙ ap (λ (k : ℕ). room_of (2 * k) c.args.pairs) c.pair_count.ensures)
 
 pub returns-in_default : goal.returns-in_default
 unfolding first_no

@@ -30,8 +30,3 @@ loop-level-preserved c =
     let loop = c.loop-level in
     let passed = asked (goal.at.loop-level-preserved c).After-below ∙ c.if-not-below.false in
     (omega arith, all_more _ loop.level loop.invariant.1 passed)
-
-pub returns : goal.returns
-returns c =
-    let loop = c.loop-level in
-    range-by _ (all_end _ _ loop.level loop.invariant.0 (omega arith) loop.invariant.1)

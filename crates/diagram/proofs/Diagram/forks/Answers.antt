@@ -1,7 +1,7 @@
 -- `Diagram::forks` meets its contract: the chunks of two are the nodes' edges.
 use Rattle.std.proofs.Common.{rules}
 use Prim.Native.Nat.{ℕ}
-use mathlib.Core.Path.{ap₂, ◌∙◌}
+use mathlib.Core.Path.{ap₂}
 use mathlib.Core.Bool.{not}
 use lib.Dec.{eqb}
 use Rattle.diagram.specs.Diagram.{width, edge_at, is_fork}

@@ -1,6 +1,6 @@
 -- `Diagram::word` meets its contract. The loop's invariant: `word` is that of the outputs passed, each a byte, so that the sum fits.
 use native.Mathlib.Omega.{arith}
-use native.Mathlib.Nat.{le_antisymm, mul-le-mul_right, pow-le-pow_right}
+use native.Mathlib.Nat.{mul-le-mul_right}
 use native.Mathlib.Numerals.{add-one}
 use Prim.Native.Nat.{ℕ, ◌+◌, ◌*◌, ◌%◌, ◌^◌, ◌≤◌, ◌<◌}
 use mathlib.Core.Path.{◌≡◌, refl}
@@ -19,11 +19,6 @@ grown w v j b g =
     let m : v * 2 ^ j ≤ 255 * 2 ^ j = mul-le-mul_right (2 ^ j) (omega arith) in
     rw (add-one j) (omega arith)
 
-small : (w v j : ℕ) → v < 256 → j < 8 → w + 255 ≤ 255 * 2 ^ j → w + v * 2 ^ j < 2 ^ 32
-small w v j b h g =
-    let p : 2 ^ (j + 1) ≤ 2 ^ 8 = pow-le-pow_right {n = 2} (omega arith) {i = j + 1} {j = 8} (omega arith) in
-    omega (arith, grown w v j b g)
-
 one_more : (d : Diagram) (a j w v : ℕ) → w ≡ word_at d (input_of a) j →
     v ≡ path d (input_of a) d.contacts 0 (get_or d.roots j 0) → w + v * 2 ^ j ≡ word_at d (input_of a) (j + 1)
 unfolding word_of value_at root
@@ -32,13 +27,6 @@ one_more d a j w v e f = rw (add-one j) (cc)
 pub loop-j-init : goal.loop-j-init
 unfolding word_of
 loop-j-init c = (omega arith, omega arith, refl)
-
-pub overflow_add-word : goal.overflow_add-word
-overflow_add-word c =
-    let loop = c.loop-j in
-    let few : loop.j < 8 = omega (arith, c.requires.1) in
-    let byte : c.lead.result < 256 = omega (arith, c.lead.type_inv) in
-    record { fits = rw (exact c.lead.result loop.j byte few) (small loop.word c.lead.result loop.j byte few loop.invariant.1) }
 
 pub loop-j-preserved : goal.loop-j-preserved
 loop-j-preserved c =
@@ -51,6 +39,3 @@ loop-j-preserved c =
       rw e (grown loop.word c.lead.result loop.j byte loop.invariant.1),
       rw e (one_more a.self.now a.input loop.j loop.word c.lead.result loop.invariant.2 c.lead.ensures),
     )
-
-pub returns : goal.returns
-returns c = rw (le_antisymm c.loop-j.invariant.0 c.loop-j-test.false) at c.loop-j.invariant.2

@@ -1,13 +1,11 @@
 -- `sound::in_turn` meets its contract. The loop's invariant: the mentions passed are in turn, and `next` is what they bring.
 use borrow.Author.Tests.{le-leb}
 use native.Mathlib.Omega.{arith}
-use Prim.Native.Nat.{ℕ}
-use mathlib.Core.Path.{sym, ap, ◌∙◌}
-use lib.Dec.{eqb}
+use mathlib.Core.Path.{sym}
 use lib.ListN.{length}
 use Rattle.fields.proofs.Bounded.{all_none, all_more}
 use Rattle.diagram.specs.Questions.{brought}
-use Rattle.diagram.proofs.Turns.{is_turn, brought-none, brought-more, turn-broken, turn_end}
+use Rattle.diagram.proofs.Turns.{is_turn, brought-none, brought-more, turn-broken}
 use Rattle.diagram.proofs.sound.in_turn.Invariants.{byte_at}
 use Rattle.diagram.proofs.sound.in_turn.Goals as goal
 
@@ -30,10 +28,3 @@ loop-byte-preserved c =
       cc,
       all_more (is_turn f) loop.byte-index loop.invariant.2 (le-leb (f loop.byte-index) (brought f loop.byte-index) (omega arith)),
     )
-
-pub returns : goal.returns
-returns c =
-    let a = c.args in
-    let loop = c.loop-byte in
-    ap (λ (n : ℕ). eqb n a.nodes) loop.invariant.1
-    ∙ turn_end (byte_at a.bytes.now) (length a.bytes.now) a.nodes loop.byte-index loop.auto.byte-index-end c.loop-byte-test.false loop.invariant.2

@@ -1,10 +1,12 @@
 -- `decode::lay_levels` meets its contract. The loop's invariant: the arrays hold the levels passed, and the cursor stands at what is left.
 use native.Mathlib.Omega.{arith}
+use Prim.Native.Nat.{◌+◌, ◌*◌, ◌-◌}
 use mathlib.Core.Path.{sym, ◌∙◌}
 use Rattle.fields.specs.Fields.{fields_of}
 use Rattle.fields.proofs.Steps.{items-next, ended}
-use Rattle.table.proofs.Decoded.{decoded-none, decoded-one, length-widths, length-edges, none_left, none-fits}
+use Rattle.table.proofs.Decoded.{length-edges, decoded-none, decoded-one, none_left, none-fits}
 use Rattle.table.proofs.Fits.{skipped}
+use Rattle.table.proofs.Padded.{put_mid-front}
 use Rattle.table.proofs.decode.lay_levels.Goals as goal
 
 pub loop-level-init : goal.loop-level-init
@@ -17,17 +19,14 @@ returns-in_default c =
     let left = none_left c.loop-level.invariant.1 (ended _ _ _ (sym c.next.ensures) c.in_default.not-Next) in
     record { widths_after = left.0; edges_after = left.1 }
 
-pub bounds-widths-level : goal.bounds-widths-level
-bounds-widths-level c = omega (arith, length-widths c.loop-level.invariant.1)
-
-pub put-requires : goal.put-requires
-put-requires c = omega (arith, length-edges c.loop-level.invariant.1)
-
 pub loop-level-preserved : goal.loop-level-preserved
 loop-level-preserved c =
     let next = items-next _ _ (sym c.next.ensures ∙ c.in-Next.is) in
     let s = decoded-one c.loop-level.invariant.1 c.loop-level-test.true next c.value-value.ensures in
-    (omega arith, rw c.put.ensures s)
+    let edges = c.loop-level.edges in
+    let at = c.loop-level.level * 16 in
+    let laid = put_mid-front at 16 edges c.value-value.result.now (omega (arith, length-edges c.loop-level.invariant.1)) (at + 16 - at) (omega arith) c.put.ensures in
+    (omega arith, rw laid s)
 
 pub returns : goal.returns
 returns c =

@@ -1,12 +1,9 @@
 -- `fit::ask_levels` meets its contract. The loop's invariant: question 4 is that of the levels left and the fields from the cursor on.
 use native.Mathlib.Omega.{arith}
-use mathlib.Core.Path.{refl, sym, ◌∙◌}
+use mathlib.Core.Path.{sym, ◌∙◌}
 use Rattle.fields.proofs.Steps.{items-next, ended}
-use Rattle.table.proofs.Fits.{passed_none, passed-one, not-level, too_few, enough, too_many}
+use Rattle.table.proofs.Fits.{passed-one, not-level, too_few, enough, too_many}
 use Rattle.table.proofs.fit.ask_levels.Goals as goal
-
-pub loop-init : goal.loop-init
-loop-init c = (omega arith, passed_none c.args.n _ refl)
 
 pub returns-in_default : goal.returns-in_default
 returns-in_default c =
