@@ -1,4 +1,5 @@
 // Gates written one after another, five bytes each.
+ghost use Rattle.std.specs.Prelude.{◌≡◌, ◌*◌, ◌≤◌, length, take};
 ghost use Rattle.rules.specs.Make.{gate};
 ghost use Rattle.gates.specs.Inner.Written.{Written, GateRoom};
 
@@ -23,5 +24,14 @@ impl<'a> Gates<'a> {
         files::put_number(self.out, at + 3, right);
         self.made += 1;
         line
+    }
+
+    // The bytes of the gates made so far.
+    pub fn bytes(&self) -> &[u8]
+        requires { 5 * self.now.made ≤ length self.now.out.now }
+        ensures { result.now ≡ take (5 * self.now.made) self.now.out.now }
+    {
+        let end = 5 * self.made;
+        &self.out[..end]
     }
 }

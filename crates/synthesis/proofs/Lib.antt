@@ -1,5 +1,6 @@
-pub mod WrittenBoard
+pub mod Widest
 pub mod WrittenPairs
+pub mod WrittenBoard
 pub mod WrittenLamp
-pub mod Files
 pub mod Services
+pub mod FilesWritten

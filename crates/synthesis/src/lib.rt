@@ -5,4 +5,4 @@ mod board;
 mod service;
 
 pub use board::{most_gates, synthesise};
-pub use service::{Checked, build, build_with_lamp, check};
+pub use service::{Checked, Counts, build, build_with_lamp, check};

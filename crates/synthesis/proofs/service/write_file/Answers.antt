@@ -1,11 +1,9 @@
 -- `service::write_file` meets its contract: each return is the case of `writing_of` that the room leads to.
-use native.Mathlib.Omega.{arith}
 use mathlib.Core.Path.{◌≡◌, sym, ◌∙◌}
 use lib.ListN.{length}
-use Rattle.files.proofs.Buffers.{enough}
 use Rattle.files.proofs.Writing.{too_short, written-whole}
 use Rattle.netlist.specs.Netlist.{file_with}
-use Rattle.netlist.proofs.Written.{length-file, lamp-most}
+use Rattle.netlist.proofs.Written.{length-file}
 use Rattle.synthesis.proofs.service.write_file.Goals.{After-length_of-length}
 use Rattle.synthesis.proofs.service.write_file.Goals as goal
 
@@ -19,17 +17,7 @@ long c =
 pub returns-in_default : goal.returns-in_default
 returns-in_default c =
     let room = sym (rw (long (goal.at.returns-in_default c).After-length_of-length) at c.ask_room.ensures) in
-    too_short _ c.args.file.now (room ∙ c.in_default.is) c.refused.ensures
-
-pub put_file-requires : goal.put_file-requires
-put_file-requires c =
-    let a = c.args in
-    let room = sym (rw (long (goal.at.put_file-requires c).After-length_of-length) at c.ask_room.ensures) in
-    let fits = enough _ (length a.file.now) (room ∙ c.in-Enough.is) in
-    record { n_bound = c.requires; lamp_in_bounds = rw (length-file a.n a.gates.now a.pairs.now a.lamp.now) at fits }
-
-pub overflow_cast-result : goal.overflow_cast-result
-overflow_cast-result c = omega (arith, lamp-most (length c.args.lamp.now))
+    too_short _ c.args.file.now (room ∙ c.in_default.is)
 
 pub returns : goal.returns
 returns c =
