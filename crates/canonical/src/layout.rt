@@ -4,7 +4,7 @@ ghost use Rattle.std.proofs.lemmas.List.Edits.{sets};
 ghost use Rattle.files.specs.Room.{written};
 ghost use Rattle.table.specs.Encode.{bytes_of};
 ghost use Rattle.functions.specs.Functions.{level_of, canonical};
-ghost use Rattle.canonical.specs.Inner.Blocks.{mention_at, is_few, blocks_at, next_of, head_bytes, level_bytes, Starts, Blocks, Put};
+ghost use Rattle.canonical.specs.Inner.Blocks.{mention_at, is_few, blocks_at, next_of, head_bytes, level_bytes, Blocks, Put};
 ghost use Rattle.canonical.specs.Service.{laid_of, tabling_of};
 
 use crate::blocks::Truths;

@@ -1,15 +1,16 @@
 // What check says of a table, and the file that a build writes: its length, each gate by its line and sources, and each output's
 // true and false line, and the lamp's.
-use files::Written;
+use files::Refusal;
 use netlist::number_at;
 use std::io;
 use std::io::Write;
 use synthesis::Checked;
+use text::print::Outcome;
 use text::{print, spelling};
 
 // Points, which stand where nothing is written, are no whole field of a buffer this short.
 pub fn show<W: Write>(out: &mut W, table: &[u8]) -> io::Result<()> {
-    show_checked(out, synthesis::check(table))?;
+    show_checked(out, Checked::from(synthesis::check(table)))?;
     write!(out, "built")?;
     show_file(out, table, |table, file| synthesis::build(table, file))
 }
@@ -31,12 +32,8 @@ fn show_checked<W: Write>(out: &mut W, checked: Checked) -> io::Result<()> {
     )
 }
 
-fn show_built<W: Write>(out: &mut W, built: Written) -> io::Result<()> {
-    write!(out, ": {}, bytes {}", built.refusal, built.length)
-}
-
 // What a build says, and the gates, the outputs and the lamp of the file that it writes.
-fn show_file<W: Write, F: FnOnce(&[u8], &mut [u8]) -> Written>(
+fn show_file<W: Write, F: FnOnce(&[u8], &mut [u8]) -> Result<u32, Refusal>>(
     out: &mut W,
     table: &[u8],
     build: F,
@@ -44,7 +41,8 @@ fn show_file<W: Write, F: FnOnce(&[u8], &mut [u8]) -> Written>(
     requires { F.IsAlwaysCallable build }
 {
     let mut file = [b'.'; 8192];
-    show_built(out, build(table, &mut file))?;
+    let built = build(table, &mut file);
+    write!(out, "{}", Outcome(built, "bytes"))?;
     let contacts = fields::byte(reader::nth(&file, 0), 0);
     show_gates(out, reader::nth(&file, 1), contacts)?;
     show_pairs(out, "output", reader::nth(&file, 2))?;
@@ -95,7 +93,7 @@ pub fn show_kept_with_lamp<W: Write>(out: &mut W, table: &[u8], case: &[u8]) -> 
 }
 
 // What a build says that is lent as many bytes as the case says, and how many of them keep their values.
-fn show_lent<W: Write, F: FnOnce(&[u8], &mut [u8]) -> Written>(
+fn show_lent<W: Write, F: FnOnce(&[u8], &mut [u8]) -> Result<u32, Refusal>>(
     out: &mut W,
     table: &[u8],
     case: &[u8],
@@ -106,6 +104,11 @@ fn show_lent<W: Write, F: FnOnce(&[u8], &mut [u8]) -> Written>(
     let len = spelling::number(out, case, 1, 10610)?;
     let mut lent = [b'.'; 10609];
     let file = &mut lent[..len];
-    show_built(out, build(table, file))?;
-    write!(out, ", kept {}", print::kept(file))
+    let built = build(table, file);
+    write!(
+        out,
+        "{}, kept {}",
+        Outcome(built, "bytes"),
+        print::kept(file)
+    )
 }

@@ -22,8 +22,7 @@ use Rattle.simulation.proofs.Worked.{length-drivers}
 use Rattle.rules.proofs.Codes.{code-length, code-bits}
 use Rattle.faults.specs.Betrayal.{stuck_at, some_no_code, is_seen, smallest_input}
 use Rattle.search.specs.Inner.Found.{found_in}
-use Rattle.stuck.specs.declared.answer.Probed.{Probed}
-use Rattle.stuck.specs.Service.{Probing, found_at, hidden_probe, probing_with}
+use Rattle.stuck.specs.Service.{Answer, Probing, found_at, hidden_probe, probing_with}
 use Rattle.stuck.specs.Inner.Findings.{RunReady}
 use Rattle.stuck.proofs.OneHold.{one-hold}
 use Rattle.stuck.proofs.Probes.{betrayed-there}
@@ -105,19 +104,19 @@ module _ (net : Netlist) (h : Hold) where
 
   module _ (file buffer : List ℕ) where
     -- What is answered and left, by whether some code input betrays the hold and the smallest that does.
-    abbrev leaves : Bool → ℕ → Probing Probed
+    abbrev leaves : Bool → ℕ → Probing Answer
     leaves seen smallest =
         let input = cond seen smallest 0 in
         let values = stuck_at net h input in
         record { answer = cond seen (found_at net.pairs input values) hidden_probe; buffer = over (file ++ values) buffer }
 
-    pub answer-seen : (a : ℕ) {r : Probed} {after : List ℕ} → Some a ≡ found_in net h → r ≡ found_at net.pairs a (stuck_at net h a) →
+    pub answer-seen : (a : ℕ) {r : Answer} {after : List ℕ} → Some a ≡ found_in net h → r ≡ found_at net.pairs a (stuck_at net h a) →
         after ≡ over (file ++ stuck_at net h a) buffer → record { answer = r; buffer = after } ≡ probing_with file net h buffer
     answer-seen a e er ea =
         let (seen, least) = found-at a e in
         (λ i. record { answer = er i; buffer = ea i }) ∙ ap₂ leaves (sym seen) least
 
-    pub answer-hidden : {r : Probed} {after : List ℕ} → None ≡ found_in net h → r ≡ hidden_probe →
+    pub answer-hidden : {r : Answer} {after : List ℕ} → None ≡ found_in net h → r ≡ hidden_probe →
         after ≡ over (file ++ stuck_at net h 0) buffer → record { answer = r; buffer = after } ≡ probing_with file net h buffer
     answer-hidden e er ea =
         (λ i. record { answer = er i; buffer = ea i }) ∙ ap (λ (b : Bool). leaves b (smallest_input net h)) (sym (found_none e))

@@ -1,5 +1,6 @@
 // The service probe.
-ghost use Rattle.std.specs.Prelude.{◌≡◌, true, [], ◌++◌, ◌+◌, ◌*◌, ◌≤◌, length, take};
+ghost use Rattle.std.specs.List.{flat_map};
+ghost use Rattle.std.specs.Prelude.{◌≡◌, ℕ, true, [], ◌++◌, ◌+◌, ◌*◌, ◌≤◌, length, take};
 ghost use Rattle.diagram.specs.Diagram.{input_of};
 ghost use Rattle.netlist.specs.Netlist.{hold_at, pairs_of, file_with, net_of};
 ghost use Rattle.wiring.specs.Questions.{are_pairs};
@@ -7,41 +8,38 @@ ghost use Rattle.files.specs.Room.{over};
 ghost use Rattle.rules.specs.Board.{board_of};
 ghost use Rattle.rules.specs.Code.{code_rails};
 ghost use Rattle.faults.specs.Betrayal.{stuck_at, some_no_code};
-ghost use Rattle.stuck.specs.Service.{found_at, probing_with, probing_of};
+ghost use Rattle.stuck.specs.Service.{found, found_at, answer_of, probing_with, probing_of};
 ghost use Rattle.stuck.specs.Inner.Probing.{probing_on};
-ghost use Rattle.stuck.specs.Inner.Findings.{RunReady, WriteReady, ProbeReady, AcceptedDiagram};
+ghost use Rattle.stuck.specs.Inner.Findings.{RunReady, WriteReady, AcceptedDiagram};
 
 use diagram::Diagram;
 use drive::Holds;
-use files::Room;
+use files::{Refusal, Room};
 use search::Board;
-use stuck::{Fanout, Probed};
+use stuck::{Fanout, Probed, Way};
 
-// The rails of a code input, in line order from the start of the array.
-fn code_rails(n: usize, input: u32) -> [u8; 24]
-    requires { n ≤ 12 }
-    ensures { take (2 * n) result ≡ code_rails n (input_of input) }
+// Each contact's two rails at a code input, the true one first.
+fn code_rails(input: u32) -> [[u8; 2]; 12]
+    ensures { (n : ℕ) → n ≤ 12 → flat_map (λ x. x) (take n result) ≡ code_rails n (input_of input) }
 {
-    let mut rails = [0u8; 24];
-    for i in 0..n {
+    let mut rails = [[0; 2]; 12];
+    for (i, pair) in rails.iter_mut().enumerate() {
         let on = ((input >> i) % 2) as u8;
-        let at = 2 * i;
-        rails[at] = on;
-        rails[at + 1] = 1 - on;
+        *pair = [on, 1 - on];
     }
     rails
 }
 
 // Writes every line's value at a code input with a line or pin held.
-fn show_at(gates: &[u8], n: usize, hold: &[u8], input: u32, lines: &mut [u8])
-    requires { RunReady n gates.now hold.now (length lines.old) }
+fn show_at(board: Board, hold: &[u8], input: u32, lines: &mut [u8])
+    requires { RunReady board.contacts board.gates.now hold.now (length lines.old) }
     ensures { lines.new
-        ≡ over (stuck_at (net_of n gates.now []) (hold_at hold.now 0) input) lines.old }
+        ≡ over (stuck_at (net_of board.entry.contacts board.entry.gates.now board.entry.pairs.now) (hold_at hold.now 0) input) lines.old }
 {
-    let rails = code_rails(n, input);
-    let count = 2 * n;
-    let end = 2 + count + gates.len() / 5;
-    evaluation::work_out(gates, &rails[..count], hold, 2, end, lines);
+    let rails = code_rails(input);
+    let rails = rails[..board.contacts].as_flattened();
+    let end = 2 + 2 * board.contacts + board.gates.len() / 5;
+    evaluation::work_out(board.gates, rails, hold, 2, end, lines);
 }
 
 // Writes the netlist's file and, behind it, every line's value at a code input with a line or pin held, and returns where these
@@ -57,13 +55,7 @@ fn write_at(board: Board, hold: &[u8], input: u32, buffer: &mut [u8]) -> usize
 {
     netlist::put_file(buffer, board.contacts, board.gates, board.pairs, b"");
     let start = 10 + board.gates.len() + board.pairs.len();
-    show_at(
-        board.gates,
-        board.contacts,
-        hold,
-        input,
-        &mut buffer[start..],
-    );
+    show_at(board, hold, input, &mut buffer[start..]);
     start
 }
 
@@ -71,30 +63,28 @@ fn write_at(board: Board, hold: &[u8], input: u32, buffer: &mut [u8]) -> usize
 fn name_output(pairs: &[u8], lines: &[u8], input: u32) -> Probed
     requires pairs_value { (are_pairs (length lines.now) pairs.now ≡ true) × (length pairs.now ≤ 32) }
     requires lines_value { some_no_code (pairs_of pairs.now) lines.now ≡ true }
-    ensures { result ≡ found_at (pairs_of pairs.now) input lines.now }
+    ensures { found result ≡ found_at (pairs_of pairs.now) input lines.now }
 {
     let output = search::lowest(pairs, lines);
     let pair = netlist::pair_at(pairs, output as usize);
-    let on = lines[usize::from(pair.on)];
     Probed {
-        refusal: 0,
         input,
         output,
-        way: stuck::way_of(on),
+        way: Way::from(lines[usize::from(pair.on)]),
     }
 }
 
 // Finds the smallest code input that betrays a held line or pin, and writes the netlist's file and the line values there; at input 0
 // where no input does.
 fn find(board: Board, hold: &[u8], buffer: &mut [u8]) -> Probed
-    requires { ProbeReady board.contacts board.gates.now board.pairs.now hold.now (length buffer.old) }
-    ensures { record { answer = result; buffer = buffer.new }
+    requires { WriteReady board.contacts board.gates.now board.pairs.now hold.now (length buffer.old) }
+    ensures { record { answer = found result; buffer = buffer.new }
         ≡ probing_with (file_with board.entry.contacts board.entry.gates.now board.entry.pairs.now [])
         (net_of board.entry.contacts board.entry.gates.now board.entry.pairs.now) (hold_at hold.now 0) buffer.old }
 {
     let Some(input) = search::search(board, netlist::hold_at(hold, 0)) else {
         write_at(board, hold, 0, buffer);
-        return stuck::hidden();
+        return Probed::hidden();
     };
     let start = write_at(board, hold, input, buffer);
     let end = start + (2 + 2 * board.contacts + board.gates.len() / 5);
@@ -102,59 +92,69 @@ fn find(board: Board, hold: &[u8], buffer: &mut [u8]) -> Probed
 }
 
 // What probe returns and leaves of an accepted table's diagram; its board's gates are written to a buffer of their own.
-fn probe_board(d: Diagram, hold: &[u8], buffer: &mut [u8], gates: &mut [u8]) -> Probed
-    requires { AcceptedDiagram d × (5 * length (board_of d).gates ≤ length gates.old) }
-    ensures { record { answer = result; buffer = buffer.new }
-        ≡ probing_on (board_of d) hold.now buffer.old }
+fn probe_board(
+    d: &Diagram,
+    hold: &[u8],
+    buffer: &mut [u8],
+    gates: &mut [u8],
+) -> Result<Probed, Refusal>
+    requires { AcceptedDiagram d.now × (5 * length (board_of d.now).gates ≤ length gates.old) }
+    ensures { record { answer = answer_of result; buffer = buffer.new }
+        ≡ probing_on (board_of d.now) hold.now buffer.old }
 {
-    let n = d.contacts;
     let mut pairs = [0u8; 32];
     let made = synthesis::synthesise(d, gates, &mut pairs);
-    let first = 2 + 2 * n;
+    let first = 2 + 2 * d.contacts;
     let lines = first + made;
     let Holds::Ordered = stuck::ask_one_hold(first, lines, hold) else {
-        return stuck::refused(14);
+        return Err(Refusal::Holds);
     };
     let line = netlist::number_at(hold, 0) as usize;
     let Fanout::Read = stuck::ask_fanout(d, line) else {
-        return stuck::refused(15);
+        return Err(Refusal::Fanout);
     };
     let gate_bytes = 5 * made;
     let pair_bytes = 4 * d.outputs;
     let Room::Enough = files::ask_room(10 + gate_bytes + pair_bytes + lines, buffer.len()) else {
-        return stuck::refused(9);
+        return Err(Refusal::Room);
     };
     let board = Board {
-        contacts: n,
+        contacts: d.contacts,
         gates: &gates[..gate_bytes],
         pairs: &pairs[..pair_bytes],
     };
-    find(board, hold, buffer)
+    Ok(find(board, hold, buffer))
+}
+
+// The same, with so many bytes for the gates.
+fn probe_within<const BYTES: usize>(
+    d: &Diagram,
+    hold: &[u8],
+    buffer: &mut [u8],
+) -> Result<Probed, Refusal>
+    requires { AcceptedDiagram d.now × (5 * length (board_of d.now).gates ≤ BYTES) × (BYTES ≤ 52800) }
+    ensures { record { answer = answer_of result; buffer = buffer.new }
+        ≡ probing_on (board_of d.now) hold.now buffer.old }
+{
+    let mut gates = [0u8; BYTES];
+    probe_board(d, hold, buffer, &mut gates)
 }
 
 // The smallest code input at which a held line or pin makes some pair 00 or 11, the lowest such output and the way it shows, or that
 // there is none; the buffer then holds the netlist's file and the line values at that input, or at input 0, with the line or pin
 // held. A refusal leaves it as it came.
 // The buffer for the gates is as long as the formula asks, in three lengths.
-pub fn probe(table: &[u8], hold: &[u8], buffer: &mut [u8]) -> Probed
-    ensures { record { answer = result; buffer = buffer.new }
+pub fn probe(table: &[u8], hold: &[u8], buffer: &mut [u8]) -> Result<Probed, Refusal>
+    ensures { record { answer = answer_of result; buffer = buffer.new }
         ≡ probing_of table.now hold.now buffer.old }
 {
-    let read = table::read(table);
-    let refusal = read.refusal;
-    if refusal != 0 {
-        return stuck::refused(refusal);
-    }
-    let d = read.diagram;
-    let most = synthesis::most_gates(d);
+    let d = table::read(table)?;
+    let most = synthesis::most_gates(&d);
     if most <= 960 {
-        let mut gates = [0u8; 4_800];
-        return probe_board(d, hold, buffer, &mut gates);
+        return probe_within::<4_800>(&d, hold, buffer);
     }
     if most <= 2880 {
-        let mut gates = [0u8; 14_400];
-        return probe_board(d, hold, buffer, &mut gates);
+        return probe_within::<14_400>(&d, hold, buffer);
     }
-    let mut gates = [0u8; 52_800];
-    probe_board(d, hold, buffer, &mut gates)
+    probe_within::<52_800>(&d, hold, buffer)
 }

@@ -3,6 +3,7 @@ use Prim.Native.Nat.{ℕ, zero, suc, ◌+◌, ◌*◌, ◌/◌, ◌≤◌, ◌<�
 use native.Mathlib.Nat.{add-zero}
 use native.Mathlib.Omega.{arith}
 use mathlib.Core.Path.{◌≡◌, refl, sym, ap, ap₂, ◌∙◌}
+use mathlib.Core.Bool.{true}
 use mathlib.Core.List.{List, [], ◌∷◌, map}
 use lib.ListN.{length, get_or, take, set, length-set}
 use Rattle.std.proofs.lemmas.List.{map-set}
@@ -12,9 +13,10 @@ use Rattle.netlist.specs.Netlist.{gate_at, level_of}
 use Rattle.fields.specs.Bounded.{listed}
 use lib.Seq.{get_or-set_other, get_or-take}
 use Rattle.simulation.specs.Run.{Rule, Driver, gate, gate_of, work_out}
+use Rattle.wiring.specs.Questions.{are_gates}
 use Rattle.wiring.proofs.Tests.{gates-at}
 use Rattle.batches.specs.declared.batch.TwoBatches.{TwoBatches}
-use Rattle.batches.specs.Inner.Batches.{at, none, blank, gate_batch, source_of, rule_of, GatesReady}
+use Rattle.batches.specs.Inner.Batches.{at, none, blank, gate_batch, source_of, rule_of, GatesTaken, AreConstants}
 use Rattle.bits.specs.Inner.Bits.{bit_of, bits_of}
 use Rattle.search.proofs.Halves.{half-at}
 use Rattle.search.proofs.Sites.{source-map, source_in}
@@ -28,6 +30,14 @@ pub record MadeBatches (gates : List ℕ) (first : ℕ) (h : Hold) (before ws : 
   pub constant : (v : ℕ) → v ≤ 1 → get_or ws v 0 ≡ get_or before v 0
   pub bits : (k : ℕ) → k < 64 →
       bits_of k (take (first + g) ws) ≡ work_out (rule_of h) (map gate (listed (gate_at gates) g 0)) (bits_of k (take first before))
+
+-- What the gates' batches are worked out from: gates whose sources are below their own lines, room for every line, and the constants.
+pub record GatesReady (first : ℕ) (h : Hold) (gates : List ℕ) (made : List Gate) (batches : List ℕ) : Type 0 where
+  pub after : 2 ≤ first
+  pub fits : first + length gates / 5 ≤ length batches
+  pub wired : are_gates first gates ≡ true
+  pub taken : GatesTaken first h (length gates / 5) gates made
+  pub constant : AreConstants batches
 
 -- What a taken gate makes of the lines' batches.
 abbrev batch-of : List ℕ → Gate → ℕ

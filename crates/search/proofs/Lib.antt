@@ -7,4 +7,3 @@ pub mod Taken
 pub mod GateBatches
 pub mod Agree
 pub mod Masks
-pub mod CodeRails

@@ -4,7 +4,7 @@ ghost use Rattle.diagram.specs.Diagram.{bit};
 ghost use Rattle.netlist.specs.Netlist.{gate_line, pairs_of, net_of};
 ghost use Rattle.wiring.specs.Questions.{are_pairs};
 ghost use Rattle.faults.specs.Betrayal.{no_code, some_no_code, lowest_no_code};
-ghost use Rattle.batches.specs.Inner.Batches.{firsts, seconds, SearchReady, BuffersFit};
+ghost use Rattle.batches.specs.Inner.Batches.{firsts, seconds, BuffersFit};
 ghost use Rattle.bits.specs.Inner.Bits.{bit_of, bits_of};
 ghost use Rattle.search.specs.Inner.Found.{found_in};
 
@@ -41,7 +41,6 @@ fn search_in(
     taken: &mut [Gate],
     batches: &mut [TwoBatches],
 ) -> Option<u32>
-    requires ready { SearchReady board.contacts board.gates.now board.pairs.now }
     requires fit { BuffersFit board.contacts board.gates.now (length taken.old) (length batches.old) }
     ensures { result ≡ found_in (net_of board.entry.contacts board.entry.gates.now board.entry.pairs.now) hold }
 {
@@ -49,8 +48,7 @@ fn search_in(
     let count = board.gates.len() / 5;
     passes::take_gates(board.gates, first, hold, taken);
     let held = HeldBoard {
-        contacts: board.contacts,
-        gates: board.gates,
+        board,
         hold,
         taken: &taken[..count],
     };
@@ -69,7 +67,6 @@ fn search_in(
 
 // The same, with room for so many gates and lines.
 fn search_within<const GATES: usize, const LINES: usize>(board: Board, hold: Hold) -> Option<u32>
-    requires ready { SearchReady board.contacts board.gates.now board.pairs.now }
     requires fit { BuffersFit board.contacts board.gates.now GATES LINES }
     requires few { (GATES ≤ 10560) × (LINES ≤ 10586) }
     ensures { result ≡ found_in (net_of board.entry.contacts board.entry.gates.now board.entry.pairs.now) hold }
@@ -90,7 +87,6 @@ fn search_within<const GATES: usize, const LINES: usize>(board: Board, hold: Hol
 
 // The smallest code input that betrays a held line or pin. A small board has little room to clear.
 pub fn search(board: Board, hold: Hold) -> Option<u32>
-    requires { SearchReady board.contacts board.gates.now board.pairs.now }
     ensures { result ≡ found_in (net_of board.entry.contacts board.entry.gates.now board.entry.pairs.now) hold }
 {
     if board.gates.len() <= 1150 {

@@ -5,8 +5,9 @@ ghost use Rattle.netlist.specs.Netlist.{gate_line, net_of};
 ghost use Rattle.faults.specs.Betrayal.{stuck_at};
 ghost use Rattle.batches.specs.Inner.Batches.{firsts, seconds, BatchesAre, rails_at, gates_at};
 ghost use Rattle.bits.specs.Inner.Bits.{bit_of, bits_of};
-ghost use Rattle.batches.specs.Inner.Batches.{GatesTaken, GatesReady, BatchesReady};
+ghost use Rattle.batches.specs.Inner.Batches.{GatesTaken, AreConstants};
 
+use crate::Board;
 use batches::{Site, TwoBatches};
 use netlist::{Gate, Hold};
 
@@ -63,24 +64,25 @@ pub fn take_gates(gates: &[u8], first: usize, hold: Hold, taken: &mut [Gate])
 // A board with a line or pin held, and its gates as the hold leaves them.
 #[derive(Clone, Copy, Drop)]
 pub struct HeldBoard<'a> {
-    pub contacts: usize,
-    pub gates: &'a [u8],
+    pub board: Board<'a>,
     pub hold: Hold,
     pub taken: &'a [Gate],
+    ghost count: { length taken.now ≡ length board.gates.now / 5 },
+    ghost left: { GatesTaken (gate_line board.contacts) hold (length board.gates.now / 5) board.gates.now taken.now },
 }
 
 impl HeldBoard<'_> {
     // Writes the rails' batches from line 2 up.
     fn put_rails(self, base: usize, batches: &mut [TwoBatches])
-        requires { (self.contacts ≤ 12) × (base % 64 ≡ 0) × (base < 4096) × (gate_line self.contacts ≤ length batches.old) }
-        ensures first { BatchesAre (gate_line self.entry.contacts) (firsts batches.new)
-            (λ k. rails_at self.entry.contacts base self.entry.hold k (bits_of k (take 2 (firsts batches.old)))) }
-        ensures second { BatchesAre (gate_line self.entry.contacts) (seconds batches.new)
-            (λ k. rails_at self.entry.contacts (base + 64) self.entry.hold k (bits_of k (take 2 (seconds batches.old)))) }
+        requires { (base % 64 ≡ 0) × (base < 4096) × (gate_line self.board.contacts ≤ length batches.old) }
+        ensures first { BatchesAre (gate_line self.entry.board.contacts) (firsts batches.new)
+            (λ k. rails_at self.entry.board.contacts base self.entry.hold k (bits_of k (take 2 (firsts batches.old)))) }
+        ensures second { BatchesAre (gate_line self.entry.board.contacts) (seconds batches.new)
+            (λ k. rails_at self.entry.board.contacts (base + 64) self.entry.hold k (bits_of k (take 2 (seconds batches.old)))) }
     {
         let held = batches::held_line(self.hold, Site::Line);
         let level = same_batches(self.hold.value % 2);
-        for i in 0..self.contacts {
+        for i in 0..self.board.contacts {
             let at = 2 + 2 * i;
             let (on, off) = rail_batches(i, base);
             batches[at] = batches::show(held, level, at, on);
@@ -90,14 +92,14 @@ impl HeldBoard<'_> {
 
     // Writes the gates' batches, given those of the lines before them.
     fn put_gates(self, batches: &mut [TwoBatches])
-        requires first { GatesReady (gate_line self.contacts) self.hold self.gates.now self.taken.now (firsts batches.old) }
-        requires second { GatesReady (gate_line self.contacts) self.hold self.gates.now self.taken.now (seconds batches.old) }
-        ensures first { BatchesAre (gate_line self.entry.contacts + length self.entry.gates.now / 5) (firsts batches.new)
-            (λ k. gates_at self.entry.gates.now self.entry.hold (bits_of k (take (gate_line self.entry.contacts) (firsts batches.old)))) }
-        ensures second { BatchesAre (gate_line self.entry.contacts + length self.entry.gates.now / 5) (seconds batches.new)
-            (λ k. gates_at self.entry.gates.now self.entry.hold (bits_of k (take (gate_line self.entry.contacts) (seconds batches.old)))) }
+        requires room { gate_line self.board.contacts + length self.board.gates.now / 5 ≤ length batches.old }
+        requires constants { AreConstants (firsts batches.old) × AreConstants (seconds batches.old) }
+        ensures first { BatchesAre (gate_line self.entry.board.contacts + length self.entry.board.gates.now / 5) (firsts batches.new)
+            (λ k. gates_at self.entry.board.gates.now self.entry.hold (bits_of k (take (gate_line self.entry.board.contacts) (firsts batches.old)))) }
+        ensures second { BatchesAre (gate_line self.entry.board.contacts + length self.entry.board.gates.now / 5) (seconds batches.new)
+            (λ k. gates_at self.entry.board.gates.now self.entry.hold (bits_of k (take (gate_line self.entry.board.contacts) (seconds batches.old)))) }
     {
-        let first = 2 + 2 * self.contacts;
+        let first = 2 + 2 * self.board.contacts;
         for (g, gate) in self.taken.iter().enumerate() {
             batches[first + g] = batches::make_batches(batches, *gate);
         }
@@ -105,12 +107,12 @@ impl HeldBoard<'_> {
 
     // Writes every line's batches, from line 0 up, at the 64 inputs from a base on and at the 64 after them.
     pub fn work_batches(self, base: usize, batches: &mut [TwoBatches])
-        requires ready { BatchesReady self.contacts self.hold self.gates.now self.taken.now (length batches.old) }
+        requires room { gate_line self.board.contacts + length self.board.gates.now / 5 ≤ length batches.old }
         requires base { (base % 64 ≡ 0) × (base < 4096) }
-        ensures first { BatchesAre (gate_line self.entry.contacts + length self.entry.gates.now / 5) (firsts batches.new)
-            (λ k. stuck_at (net_of self.entry.contacts self.entry.gates.now []) self.entry.hold (base + k)) }
-        ensures second { BatchesAre (gate_line self.entry.contacts + length self.entry.gates.now / 5) (seconds batches.new)
-            (λ k. stuck_at (net_of self.entry.contacts self.entry.gates.now []) self.entry.hold (base + 64 + k)) }
+        ensures first { BatchesAre (gate_line self.entry.board.contacts + length self.entry.board.gates.now / 5) (firsts batches.new)
+            (λ k. stuck_at (net_of self.entry.board.contacts self.entry.board.gates.now []) self.entry.hold (base + k)) }
+        ensures second { BatchesAre (gate_line self.entry.board.contacts + length self.entry.board.gates.now / 5) (seconds batches.new)
+            (λ k. stuck_at (net_of self.entry.board.contacts self.entry.board.gates.now []) self.entry.hold (base + 64 + k)) }
     {
         batches[0] = same_batches(0);
         batches[1] = same_batches(1);

@@ -3,3 +3,4 @@ pub mod Probes
 pub mod Boards
 pub mod Fanouts
 pub mod Outcomes
+pub mod Made

@@ -6,57 +6,54 @@ use lib.ListN.{length}
 use Rattle.fields.specs.Refusals.{first_no}
 use Rattle.fields.proofs.Refusals.{first-no}
 use Rattle.diagram.specs.declared.Diagram.{Diagram}
-use Rattle.table.specs.declared.reading.Table.{Table}
 use Rattle.table.specs.Table.{table_refusal}
-use Rattle.table.specs.Inner.Read.{table_of}
-use Rattle.table.proofs.Tables.{table-refusal}
 use Rattle.drive.specs.declared.Holds.{Holds}
 use Rattle.drive.specs.declared.Holds.TheVariants.{Ordered, Disordered}
 use Rattle.files.specs.declared.room.Room.TheVariants.{Enough, Short}
 use Rattle.netlist.specs.Netlist.{Netlist, gate_line, line_count, hold_at, file_with, file_of, net_of}
 use Rattle.drive.specs.Questions.{holds_number}
+use Rattle.files.specs.declared.refusal.Refusal.{Refusal}
+use Rattle.files.specs.Refusals.{number_of}
 use Rattle.files.specs.Room.{room_of, room_number}
+use Rattle.files.proofs.Refusals.{not_zero}
 use Rattle.files.proofs.Buffers.{enough}
 use Rattle.rules.specs.Board.{board_of}
-use Rattle.synthesis.proofs.Services.{Unrefused, length-is}
-use Rattle.stuck.specs.declared.answer.Probed.{Probed}
+use Rattle.stuck.proofs.Made.{length-is}
+use Rattle.synthesis.proofs.Services.{Unrefused}
 use Rattle.stuck.specs.Inner.Findings.{ProbeReady, AcceptedDiagram}
 use Rattle.stuck.specs.declared.fanout.Fanout.{Fanout}
 use Rattle.stuck.specs.declared.fanout.Fanout.TheVariants.{Read, Unread}
-use Rattle.stuck.specs.Service.{one_hold, fanout_of, fanout_number, board_answers, Probing, probe_refusal, refused_probe, probing_with, probing_of}
+use Rattle.stuck.specs.Service.{one_hold, fanout_of, fanout_number, board_answers, Answer, Probing, probe_refusal, refused_probe, probing_with, probing_of}
 use Rattle.stuck.specs.Inner.Probing.{probing_on}
 use Rattle.stuck.proofs.Boards.{gates_on, pairs_on, net-is, file-is, lampless, sized, findable}
 
-abbrev probing : Probed → List ℕ → Probing Probed
+abbrev probing : Answer → List ℕ → Probing Answer
 probing r after = record { answer = r; buffer = after }
 
 -- What probe returns, and what it leaves in the buffer.
-abbrev pub ProbeLeaves : List ℕ → List ℕ → List ℕ → Probed → List ℕ → Type 0
+abbrev pub ProbeLeaves : List ℕ → List ℕ → List ℕ → Answer → List ℕ → Type 0
 ProbeLeaves table hold buffer r after = probing r after ≡ probing_of table hold buffer
 
 -- The same of a board.
-abbrev pub ProbeLeavesOn : Netlist → List ℕ → List ℕ → Probed → List ℕ → Type 0
+abbrev pub ProbeLeavesOn : Netlist → List ℕ → List ℕ → Answer → List ℕ → Type 0
 ProbeLeavesOn net hold buffer r after = probing r after ≡ probing_on net hold buffer
 
 module _ (table hold buffer : List ℕ) where
-  refused : (k : ℕ) {r : Probed} → probe_refusal table hold (length buffer) ≡ k → (k ≡ 0 → ⊥) → r ≡ refused_probe k →
+  refused : (k : ℕ) {r : Answer} → probe_refusal table hold (length buffer) ≡ k → (k ≡ 0 → ⊥) → r ≡ refused_probe k →
       ProbeLeaves table hold buffer r buffer
   unfolding probing_of
   refused zero e h a = absurd (h refl)
-  refused (suc k) e h a = rw e (ap (λ (r : Probed). probing r buffer) a)
+  refused (suc k) e h a = rw e (ap (λ (r : Answer). probing r buffer) a)
 
-  pub table-refused : {t : Table} {r : Probed} → t ≡ table_of table → (t.refusal ≡ 0 → ⊥) → r ≡ refused_probe t.refusal →
-      ProbeLeaves table hold buffer r buffer
+  pub table-refused : (r : Refusal) → number_of r ≡ table_refusal table → ProbeLeaves table hold buffer (refused_probe (number_of r)) buffer
   unfolding probe_refusal
-  table-refused {t} e h a =
-      let is : t.refusal ≡ table_refusal table = ap (λ (t : Table). t.refusal) e ∙ table-refusal table in
-      refused t.refusal (rw (← is) (first-no t.refusal _ h)) h a
+  table-refused r e = refused (number_of r) (rw (← e) (first-no (number_of r) _ (not_zero r))) (not_zero r) refl
 
   -- Once the table has its yes, the answers are those of its diagram's board.
-  pub probe-done : {d : Diagram} {r : Probed} {after : List ℕ} → Unrefused table d → ProbeLeavesOn (board_of d) hold buffer r after →
+  pub probe-done : {d : Diagram} {r : Answer} {after : List ℕ} → Unrefused table d → ProbeLeavesOn (board_of d) hold buffer r after →
       ProbeLeaves table hold buffer r after
   unfolding probing_of probe_refusal first_no
-  probe-done u w = rw u.yes (rw u.is at w)
+  probe-done u w = rw (← u.yes) (rw u.is at w)
 
 -- A diagram's board that is made, question by question.
 module _ {d : Diagram} (drawn : AcceptedDiagram d) {made : ℕ} (count : made ≡ length (board_of d).gates) where
@@ -96,20 +93,20 @@ module _ {d : Diagram} (drawn : AcceptedDiagram d) {made : ℕ} (count : made �
     asked : number ≡ numbered d.contacts lines (10 + 5 * made + 4 * d.outputs)
     asked = λ i. numbered (sym contacts-are i) (sym lines_are i) (sym size_is i)
 
-    stopped : (k : ℕ) {r : Probed} → number ≡ suc k → r ≡ refused_probe (suc k) → ProbeLeavesOn (board_of d) hold buffer r buffer
-    stopped k e a = rw e (ap (λ (r : Probed). probing r buffer) a)
+    stopped : (k : ℕ) {r : Answer} → number ≡ suc k → r ≡ refused_probe (suc k) → ProbeLeavesOn (board_of d) hold buffer r buffer
+    stopped k e a = rw e (ap (λ (r : Answer). probing r buffer) a)
 
-    pub disordered : {r : Probed} → order ≡ Disordered → r ≡ refused_probe 14 → ProbeLeavesOn (board_of d) hold buffer r buffer
+    pub disordered : {r : Answer} → order ≡ Disordered → r ≡ refused_probe 14 → ProbeLeavesOn (board_of d) hold buffer r buffer
     unfolding first_no
     disordered o = stopped 13 (asked ∙ rw o)
 
-    pub unread : {r : Probed} → order ≡ Ordered → fanout ≡ Unread → r ≡ refused_probe 15 →
+    pub unread : {r : Answer} → order ≡ Ordered → fanout ≡ Unread → r ≡ refused_probe 15 →
         ProbeLeavesOn (board_of d) hold buffer r buffer
     unfolding first_no
     unread o f = stopped 14 (asked ∙ rw (o, f))
 
     module _ (o : order ≡ Ordered) (f : fanout ≡ Read) where
-      pub short : {r : Probed} → room_of wanted (length buffer) ≡ Short → r ≡ refused_probe 9 → ProbeLeavesOn (board_of d) hold buffer r buffer
+      pub short : {r : Answer} → room_of wanted (length buffer) ≡ Short → r ≡ refused_probe 9 → ProbeLeavesOn (board_of d) hold buffer r buffer
       unfolding first_no
       short e = stopped 8 (asked ∙ rw (o, f, e))
 
@@ -122,7 +119,7 @@ module _ {d : Diagram} (drawn : AcceptedDiagram d) {made : ℕ} (count : made �
             (findable drawn hold (length buffer) (rw lines_are at o)
             (rw (← lines_are, ← size_is) (enough wanted (length buffer) e)))
 
-        pub found : {r : Probed} {after : List ℕ} →
+        pub found : {r : Answer} {after : List ℕ} →
             probing r after ≡ probing_with (file_with d.contacts gates pairs []) (net_of d.contacts gates pairs) (hold_at hold 0) buffer →
             ProbeLeavesOn (board_of d) hold buffer r after
         unfolding first_no

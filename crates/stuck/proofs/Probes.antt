@@ -1,6 +1,6 @@
 -- What probe finds at the smallest betraying input.
-use Prim.Native.Nat.{ℕ, zero, suc, ◌*◌, ◌/◌, ◌^◌, ◌<◌}
-use mathlib.Core.Path.{◌≡◌, refl, sym, ap, ◌∙◌}
+use Prim.Native.Nat.{ℕ, ◌*◌, ◌/◌, ◌^◌, ◌<◌}
+use mathlib.Core.Path.{◌≡◌, sym, ap, ◌∙◌}
 use mathlib.Core.Bool.{true}
 use mathlib.Core.List.{List}
 use lib.ListN.{length, get_or}
@@ -8,19 +8,12 @@ use Rattle.netlist.specs.declared.Hold.{Hold}
 use Rattle.netlist.specs.declared.Pair.{Pair}
 use Rattle.netlist.specs.Netlist.{Netlist, number_at, pairs_of}
 use Rattle.netlist.proofs.Lists.{get_or-pairs}
-use Rattle.stuck.specs.declared.answer.Probed.{Probed}
 use Rattle.stuck.specs.declared.answer.Way.{Way}
-use Rattle.stuck.specs.declared.answer.Way.TheVariants.{BothHigh}
 use Rattle.faults.specs.Betrayal.{stuck_at, some_no_code, betrays, is_seen, smallest_input, lowest_no_code}
-use Rattle.stuck.specs.Service.{way_of, found_at}
+use Rattle.stuck.specs.Service.{way_of, Answer, found_at}
 use Rattle.fields.proofs.Least.{least_first}
 
--- A value that is not 0 is high.
-pub high : (v : ℕ) → (v ≡ 0 → ⊥) → BothHigh ≡ way_of v
-high zero h = absurd (h refl)
-high (suc v) h = refl
-
-abbrev found : ℕ → ℕ → Way → Probed
+abbrev found : ℕ → ℕ → Way → Answer
 found input output way = record { refusal = 0; input = input; output = output; way = way }
 
 -- The output and its true line's value, as the outputs' bytes name them.

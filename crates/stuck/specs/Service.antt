@@ -1,5 +1,5 @@
 -- The service probe: what it returns, and the bytes that it leaves.
-use Rattle.std.specs.Prelude.{ℕ, zero, suc, ◌+◌, ◌&&◌, cond, List, [], ◌∷◌, ◌++◌, eqb, length, get_or}
+use Rattle.std.specs.Prelude.{ℕ, zero, suc, ◌+◌, ◌&&◌, cond, Result, Ok, Err, List, [], ◌∷◌, ◌++◌, eqb, length, get_or}
 use Rattle.fields.specs.Refusals.{first_no}
 use Rattle.table.specs.Table.{table_refusal}
 use Rattle.netlist.specs.declared.Hold.{Hold}
@@ -8,6 +8,8 @@ use Rattle.netlist.specs.Netlist.{Netlist, hold_at, gate_line, line_count, is_re
 use Rattle.drive.specs.declared.Holds.{Holds}
 use Rattle.drive.specs.declared.Holds.TheVariants.{Ordered, Disordered}
 use Rattle.drive.specs.Questions.{are_ordered, holds_number}
+use Rattle.files.specs.declared.refusal.Refusal.{Refusal}
+use Rattle.files.specs.Refusals.{number_of}
 use Rattle.files.specs.Room.{over, room_of, room_number}
 use Rattle.rules.specs.Board.{table_board}
 use Rattle.stuck.specs.declared.fanout.Fanout.{Fanout}
@@ -46,9 +48,16 @@ abbrev pub way_of : ℕ → Way
 way_of zero = BothLow
 way_of (suc k) = BothHigh
 
--- What probe returns where some code input betrays the hold: the lowest output whose pair shows no code among the line values at an
+-- What probe answers: a refusal's number, or 0 and what it finds.
+pub record Answer : Type 0 where
+  pub refusal : ℕ
+  pub input : ℕ
+  pub output : ℕ
+  pub way : Way
+
+-- What probe answers where some code input betrays the hold: the lowest output whose pair shows no code among the line values at an
 -- input, and the way it shows.
-abbrev pub found_at : List Pair → ℕ → List ℕ → Probed
+abbrev pub found_at : List Pair → ℕ → List ℕ → Answer
 found_at pairs input values =
     let output = lowest_no_code pairs values in
     record {
@@ -59,21 +68,29 @@ found_at pairs input values =
     }
 
 -- Hidden: no code input betrays the hold.
-abbrev pub hidden_probe : Probed
+abbrev pub hidden_probe : Answer
 hidden_probe = record { refusal = 0; input = 0; output = 0; way = Hidden }
 
 -- A refusal, with every other result zero.
-abbrev pub refused_probe : ℕ → Probed
+abbrev pub refused_probe : ℕ → Answer
 refused_probe number = record { refusal = number; input = 0; output = 0; way = BothLow }
 
--- What probe returns, and what it leaves in the lent buffer.
+-- The answer of what is found, and that of a result.
+abbrev pub found : Probed → Answer
+found p = record { refusal = 0; input = p.input; output = p.output; way = p.way }
+
+abbrev pub answer_of : Result Probed Refusal → Answer
+answer_of (Ok p) = found p
+answer_of (Err r) = refused_probe (number_of r)
+
+-- What probe answers, and what it leaves in the lent buffer.
 pub record Probing (A : Type 0) : Type 0 where
   pub answer : A
   pub buffer : List ℕ
 
 -- Of a netlist and its file: the smallest betraying input, or hidden; the buffer then holds the file and the line values at that
 -- input, or at input 0, with the line or pin held.
-abbrev pub probing_with : List ℕ → Netlist → Hold → List ℕ → Probing Probed
+abbrev pub probing_with : List ℕ → Netlist → Hold → List ℕ → Probing Answer
 probing_with file net hold buffer =
     let seen = is_seen net hold in
     let input = cond seen (smallest_input net hold) 0 in
@@ -84,9 +101,9 @@ probing_with file net hold buffer =
     }
 
 -- A refusal leaves the buffer as it came.
-abbrev pub probing_or : ℕ → Netlist → Hold → List ℕ → Probing Probed
+abbrev pub probing_or : ℕ → Netlist → Hold → List ℕ → Probing Answer
 probing_or zero net hold buffer = probing_with (file_of net) net hold buffer
 probing_or (suc k) net hold buffer = record { answer = refused_probe (suc k); buffer = buffer }
 
-unfoldable pub probing_of : List ℕ → List ℕ → List ℕ → Probing Probed
+unfoldable pub probing_of : List ℕ → List ℕ → List ℕ → Probing Answer
 probing_of table hold buffer = probing_or (probe_refusal table hold (length buffer)) (table_board table) (hold_at hold 0) buffer

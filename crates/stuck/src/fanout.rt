@@ -16,16 +16,15 @@ pub enum Fanout {
 
 // Question 15: does some gate or output read the line? Every gate of a board is read, a rail exactly if some node of its level has
 // two different edges.
-pub fn ask_fanout(d: Diagram, line: usize) -> Fanout
-    requires { AcceptedDiagram d × (2 ≤ line) × (line < line_count (board_of d)) }
-    ensures { result ≡ fanout_of (board_of d) line }
+pub fn ask_fanout(d: &Diagram, line: usize) -> Fanout
+    requires { AcceptedDiagram d.now × (2 ≤ line) × (line < line_count (board_of d.now)) }
+    ensures { result ≡ fanout_of (board_of d.now) line }
 {
     if 2 + 2 * d.contacts <= line {
         return Fanout::Read;
     }
     let contact = (line - 2) / 2;
-    let nodes = d.widths[contact];
-    if diagram::forks(&d.edges, contact * 16, nodes) {
+    if d.forks(contact) {
         return Fanout::Read;
     }
     Fanout::Unread

@@ -5,6 +5,6 @@ mod answer;
 mod fanout;
 mod hold;
 
-pub use answer::{Probed, Way, hidden, refused, way_of};
+pub use answer::{Probed, Way};
 pub use fanout::{Fanout, ask_fanout};
 pub use hold::ask_one_hold;

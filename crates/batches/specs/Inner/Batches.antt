@@ -79,22 +79,9 @@ blank = record { kind = 0; left = 0; right = 0 }
 abbrev pub GatesTaken : ℕ → Hold → ℕ → List ℕ → List Gate → Type 0
 GatesTaken first h count gates taken = (g : ℕ) → g < count → get_or taken g blank ≡ held_gate h (first + g) (gate_at gates g)
 
--- What the gates' batches are worked out from: gates whose sources are below their own lines, room for every line, and the constants.
-pub record GatesReady (first : ℕ) (h : Hold) (gates : List ℕ) (made : List Gate) (batches : List ℕ) : Type 0 where
-  pub after : 2 ≤ first
-  pub fits : first + length gates / 5 ≤ length batches
-  pub wired : are_gates first gates ≡ true
-  pub count : length made ≡ length gates / 5
-  pub taken : GatesTaken first h (length gates / 5) gates made
-  pub constant : (k v : ℕ) → k < 64 → v ≤ 1 → bit_of k (get_or batches v 0) ≡ v
-
--- What the lines' batches are worked out from.
-pub record BatchesReady (n : ℕ) (h : Hold) (gates : List ℕ) (made : List Gate) (room : ℕ) : Type 0 where
-  pub few : n ≤ 12
-  pub fits : gate_line n + length gates / 5 ≤ room
-  pub wired : are_gates (gate_line n) gates ≡ true
-  pub count : length made ≡ length gates / 5
-  pub taken : GatesTaken (gate_line n) h (length gates / 5) gates made
+-- The first two lines' batches are their constants'.
+abbrev pub AreConstants : List ℕ → Type 0
+AreConstants batches = (k v : ℕ) → k < 64 → v ≤ 1 → bit_of k (get_or batches v 0) ≡ v
 
 -- What a search goes through.
 pub record SearchReady (n : ℕ) (gates pairs : List ℕ) : Type 0 where

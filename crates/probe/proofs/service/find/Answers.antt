@@ -49,7 +49,7 @@ name_output-requires c =
     let w = c.write_at-start in
     let shown = part a.board.contacts a.board.gates.now a.board.pairs.now h c.in-Some.input w.result a.buffer.now w.ensures.value w.ensures.buffer_after in
     let count = length-lines a.board.contacts a.board.gates.now a.board.pairs.now h c.in-Some.input in record {
-      pairs_value = (rw (shown, count) c.requires.searchable.paired, c.requires.writable.bytes.1);
+      pairs_value = (rw (shown, count) a.board.paired, c.requires.bytes.1);
       lines_value = rw shown (betrayed-at (net_of a.board.contacts a.board.gates.now a.board.pairs.now) h c.in-Some.input
           (sym c.in-Some.is ∙ searched (goal.at.name_output-requires c).After-search));
     }

@@ -32,8 +32,8 @@ bounds-lines-from c =
 pub returns : goal.returns
 returns c =
     found-by c.args.pairs.now c.args.lines.now c.args.input c.lowest-output.result _
-    c.way_of.result
+    c.from-2.result
     (output (goal.at.returns c).After-lowest-output)
     c.lowest-output.ensures
     (ap (λ (i : ℕ). get_or c.args.lines.now i 0) (c.from.ensures ∙ ap (λ (p : Pair). p.on) c.pair_at-pair.ensures))
-    c.way_of.ensures
+    c.from-2.ensures

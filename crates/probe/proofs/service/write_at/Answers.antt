@@ -7,7 +7,7 @@ use lib.ListN.{length}
 use Rattle.netlist.specs.Netlist.{hold_at, file_with, net_of}
 use Rattle.netlist.proofs.Written.{length-file}
 use Rattle.faults.specs.Betrayal.{stuck_at}
-use Rattle.probe.proofs.Findings.{written_behind, lines_same}
+use Rattle.probe.proofs.Findings.{written_behind}
 use Rattle.probe.proofs.service.write_at.Goals as goal
 
 pub returns : goal.returns
@@ -18,5 +18,5 @@ returns c =
       buffer_after = written_behind (file_with args.board.contacts args.board.gates.now args.board.pairs.now [])
           (stuck_at (net_of args.board.contacts args.board.gates.now args.board.pairs.now) (hold_at args.hold.now 0) args.input) args.buffer.now _ _
           (length-file args.board.contacts args.board.gates.now args.board.pairs.now [] ∙ add-zero _) refl (omega arith) kept c.put_file.ensures
-          (rw (lines_same args.board.contacts args.board.gates.now args.board.pairs.now (hold_at args.hold.now 0) args.input) at c.show_at.ensures);
+          c.show_at.ensures;
     }

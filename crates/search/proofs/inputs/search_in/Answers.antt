@@ -26,7 +26,7 @@ lent-are p lines ws vs are k l = rw (← take-map p lines ws) (are k l)
 pub loop-base-init : goal.loop-base-init
 loop-base-init c =
     let b = c.args.board in
-    let few : 2 ^ b.contacts ≤ 4096 = pow_mono c.requires.ready.few in record {
+    let few : 2 ^ b.contacts ≤ 4096 = pow_mono b.few in record {
       aligned = omega arith;
       last = omega arith;
       few = few;

@@ -6,6 +6,6 @@ use Rattle.search.proofs.passes.HeldBoard.put_gates.Given as goal
 
 abbrev pub invariant-loop-g : goal.invariant-loop-g
 invariant-loop-g l = record {
-  first : MadeBatches l.self.gates.now (gate_line l.self.contacts) l.self.hold (firsts l.initial.batches) (firsts l.batches) l.g;
-  second : MadeBatches l.self.gates.now (gate_line l.self.contacts) l.self.hold (seconds l.initial.batches) (seconds l.batches) l.g;
+  first : MadeBatches l.self.board.gates.now (gate_line l.self.board.contacts) l.self.hold (firsts l.initial.batches) (firsts l.batches) l.g;
+  second : MadeBatches l.self.board.gates.now (gate_line l.self.board.contacts) l.self.hold (seconds l.initial.batches) (seconds l.batches) l.g;
 }

@@ -45,10 +45,10 @@ loop-i-preserved c =
 
 pub returns-clause-first : goal.returns-clause-first
 returns-clause-first c =
-    let e : c.loop-i.i ≡ c.args.self.contacts = omega arith in
+    let e : c.loop-i.i ≡ c.args.self.board.contacts = omega arith in
     λ k l. rw e at (c.loop-i.invariant.first k l)
 
 pub returns-clause-second : goal.returns-clause-second
 returns-clause-second c =
-    let e : c.loop-i.i ≡ c.args.self.contacts = omega arith in
+    let e : c.loop-i.i ≡ c.args.self.board.contacts = omega arith in
     λ k l. rw e at (c.loop-i.invariant.second k l)

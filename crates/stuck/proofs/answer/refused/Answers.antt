@@ -1,6 +1,0 @@
--- `answer::refused` meets its contract.
-use mathlib.Core.Path.{refl}
-use Rattle.stuck.proofs.answer.refused.Goals as goal
-
-pub returns : goal.returns
-returns c = refl
