@@ -101,7 +101,7 @@ module _ (holds : List ℕ) (ok : Sorted holds) where
   rank-here : (i : ℕ) → i < length holds / 3 → rank_at holds i ≡ rank_of (hold_at holds i)
   rank-here i l = ap (λ (b : Bool). cond b (rank_of (hold_at holds i)) 262144) (lt-ltb i (length holds / 3) l)
 
-  pub rank-past : (i : ℕ) → length holds / 3 ≤ i → rank_at holds i ≡ 262144
+  rank-past : (i : ℕ) → length holds / 3 ≤ i → rank_at holds i ≡ 262144
   rank-past i l = ap (λ (b : Bool). cond b (rank_of (hold_at holds i)) 262144) (le-ltb i (length holds / 3) l)
 
   -- A place whose hold has the rank or a higher one is the first, if those before it are of lower rank.
@@ -118,18 +118,6 @@ module _ (holds : List ℕ) (ok : Sorted holds) where
   ahead-rank rank i a l =
       by_cases (dec_lt i (length holds / 3)) (λ p. omega (arith, rank-here i p, a.from i (omega arith) p))
       (λ p. omega (arith, rank-past i (omega arith)))
-
-  -- Where the last hold is of a lower rank, all are.
-  pub all-behind : (rank i : ℕ) → i + 1 ≡ length holds / 3 → rank_at holds i < rank → Behind holds rank (length holds / 3)
-  all-behind rank i e l k m h =
-      let last = rank-here i (omega arith) in
-      by_cases (dec_lt k i) (λ n. omega (arith, ok.rising k i n (omega arith)))
-      (λ n. let z : k ≡ i = omega arith in rw z (omega arith))
-
-  pub behind_more : (rank i : ℕ) → Behind holds rank i → rank_at holds i < rank → Behind holds rank (i + 1)
-  behind_more rank i b l k m h =
-      by_cases (dec_lt k i) (λ n. b k n h)
-      (λ n. let e : k ≡ i = omega arith in let r = rank-here i (rw (sym e) h) in rw e (omega arith))
 
   pub inside : (i : ℕ) → rank_at holds i < 262144 → i < length holds / 3
   inside i l = by_cases (dec_lt i (length holds / 3)) (λ p. p) (λ p. absurd (omega (arith, rank-past i (omega arith))))

@@ -3,6 +3,7 @@ ghost use Rattle.std.specs.Prelude.{◌≡◌, ◌/◌, ◌<◌};
 ghost use Rattle.evaluation.specs.Inner.Walk.{IsNext, Awaits, Looks};
 
 use crate::board::Board;
+use netlist::Hold;
 
 // The next hold: its place in the list and its rank, which is past every rank where the list has ended.
 #[derive(Clone, Copy, Drop)]
@@ -29,24 +30,14 @@ impl Board<'_> {
         }
     }
 
-    // The first hold of a rank or a higher one. Where the last hold is of a lower rank there is none.
+    // The first hold of a rank or a higher one.
     pub fn seek(&self, rank: usize) -> Next
         requires { rank < 262144 }
         ensures { Awaits self.now.holds.now rank result }
     {
-        let count = self.holds.len() / 3;
-        if count == 0 {
-            return self.next_at(0);
-        }
-        let last = self.next_at(count - 1);
-        if last.rank < rank {
-            return self.next_at(count);
-        }
-        let mut next = self.next_at(0);
-        while next.rank < rank {
-            next = self.next_at(next.at + 1);
-        }
-        next
+        let holds = self.holds.as_chunks::<3>().0;
+        let at = holds.partition_point(|bytes| drive::rank(Hold::from(bytes)) < rank);
+        self.next_at(at)
     }
 
     // The value that the site of a rank is held at, if it is. The hold after it is the next then.

@@ -1,58 +1,63 @@
--- `Board::seek` meets its contract. The loop's invariant: the holds passed are of lower rank.
+-- `Board::seek` meets its contract: the holds' ranks rise, so those that are lower stand before the others.
+use borrow.Author.Tests.{ltb-true, ltb-false, lt-ltb, tests}
+use native.Mathlib.Nat.{eq-or-lt_of_le}
 use native.Mathlib.Omega.{arith}
-use Prim.Native.Nat.{◌+◌, ◌-◌, ◌/◌, ◌<◌}
-use mathlib.Core.Path.{◌≡◌}
-use lib.ListN.{length}
-use Rattle.evaluation.proofs.Looking.{in_order, rank-past, ahead-at, all-behind, behind_more, inside}
-use Rattle.evaluation.proofs.board.Board.seek.Goals.{At-loop-next}
+use Prim.Native.Nat.{ℕ, ◌/◌, ◌<◌}
+use mathlib.Core.Path.{◌≡◌, ap, ◌∙◌}
+use mathlib.Core.Bool.{Bool, true, false}
+use mathlib.Core.List.{List, []}
+use mathlib.Core.Logic.{⊎_elim}
+use lib.Dec.{ltb}
+use lib.ListN.{length, get_or}
+use Rattle.std.proofs.Common.{rules}
+use Rattle.std.proofs.lemmas.List.Sorted.{IsPartitionPoint-from_clause}
+use Rattle.std.specs.List.Sorted.{IsPartitionedBy, IsPartitionPoint}
+use Rattle.netlist.specs.Netlist.{hold_at}
+use Rattle.netlist.proofs.Chunks.{hold-chunk}
+use Rattle.drive.specs.Questions.{rank_of}
+use Rattle.evaluation.proofs.Looking.{in_order}
+use Rattle.evaluation.proofs.board.Board.seek.Goals.{After-partition_point-at}
 use Rattle.evaluation.proofs.board.Board.seek.Goals as goal
 
-pub returns-then-count-eq0 : goal.returns-then-count-eq0
-returns-then-count-eq0 c =
-    let none = c.if-count-eq0.true in
-    let (place, is) = c.next_at.ensures in
-    record { is = is; ahead = rw place (record { behind = λ k l. absurd (omega arith); from = λ k _ h. absurd (omega arith) }) }
+module _ (c : After-partition_point-at) where
+  abbrev holds : List ℕ
+  holds = c.args.self.now.holds.now
 
-pub returns-then-last-rank : goal.returns-then-last-rank
-returns-then-last-rank c =
-    let sorted = in_order c.args.self.now in
-    let (place, is) = c.next_at-then-last-rank.ensures in
-    let (last, rank) = c.next_at-last.ensures in
-    let count = length c.args.self.now.holds.now / 3 in
-    let past = rank-past _ sorted count (omega arith) in
-    let some : count - 1 + 1 ≡ count = omega (arith, c.if-count-eq0.false) in
-    let lower = all-behind _ sorted c.args.rank (count - 1) some (omega (arith, rw last at rank, c.if-last-rank.true)) in
-    record { is = is; ahead = rw place (ahead-at _ sorted _ _ lower (omega (arith, c.requires))) }
+  abbrev chunks : List (List ℕ)
+  chunks = c.as_chunks.result.0.now
 
-pub loop-next-init : goal.loop-next-init
-loop-next-init c =
-    let (place, is) = c.next_at-next.ensures in
-    record { is = is; behind = λ k l. absurd (omega arith); within = omega arith }
+  -- Whether a hold is of a lower rank.
+  abbrev lower : List ℕ → Bool
+  lower bytes = ltb (rank_of (hold_at bytes 0)) c.args.rank
 
--- Where the rank is lower, a hold stands at the place.
-within : (c : At-loop-next) → c.loop-next.next.rank < c.args.rank → c.loop-next.next.at < length c.args.self.now.holds.now / 3
-within c l = inside _ (in_order c.args.self.now) c.loop-next.next.at (omega (arith, c.loop-next.invariant.is, c.requires))
+  its : (i : ℕ) (d : List ℕ) → i < length holds / 3 → rank_of (hold_at (get_or chunks i d) 0) ≡ rank_of (hold_at holds i)
+  its i d l =
+      ap (λ (chunks : List (List ℕ)). rank_of (hold_at (get_or chunks i d) 0)) c.as_chunks.ensures.front
+      ∙ ap rank_of (hold-chunk holds i d l)
 
-pub overflow_add-next : goal.overflow_add-next
-overflow_add-next c = let l = within (goal.at.overflow_add-next c).At-loop-next c.loop-next-test.true in omega arith
+  parted : IsPartitionedBy lower chunks
+  parted i j d le l e =
+      let count = c.as_chunks.ensures.front_len in
+      let high = ltb-true _ _ e in
+      let hi = its i d (omega arith) in
+      let hj = its j d (omega arith) in
+      lt-ltb _ _
+      (⊎_elim (λ (q : i ≡ j). rw q high)
+      (λ m. let r = (in_order c.args.self.now).rising i j m (omega arith) in omega arith) (eq-or-lt_of_le le))
 
-pub loop-next-smaller : goal.loop-next-smaller
-loop-next-smaller c =
-    let l = within (goal.at.loop-next-smaller c).At-loop-next c.loop-next-test.true in
-    omega (arith, c.next_at-next-in-loop-next.ensures.0)
-
-pub loop-next-preserved : goal.loop-next-preserved
-loop-next-preserved c =
-    let lower = c.loop-next-test.true in
-    let (place, is) = c.next_at-next-in-loop-next.ensures in
-    let rank = c.loop-next.invariant.is in
-    record {
-      is = is;
-      behind = rw place (behind_more _ (in_order c.args.self.now) _ _ c.loop-next.invariant.behind (omega arith));
-      within = omega (arith, within (goal.at.loop-next-preserved c).At-loop-next lower);
-    }
+  point : IsPartitionPoint (λ y. lower y ≡ true) (λ y. lower y ≡ false) chunks c.partition_point-at.result
+  point = IsPartitionPoint-from_clause lower chunks _ c.partition_point-at.ensures.partitioned parted (λ a r f k. search (rules, tests))
 
 pub returns : goal.returns
 returns c =
-    let rank = c.loop-next.invariant.is in
-    record { is = rank; ahead = ahead-at _ (in_order c.args.self.now) _ _ c.loop-next.invariant.behind (omega (arith, c.loop-next-test.false)) }
+    let here = (goal.at.returns c).After-partition_point-at in
+    let (place, is) = c.next_at.ensures in
+    let (below, above) = point here in
+    let count = c.as_chunks.ensures.front_len in
+    record {
+      is = is;
+      ahead = rw place (record {
+        behind = λ k m h. let e = its here k [] h in let l = ltb-true _ _ (below k [] (omega arith) m) in omega arith;
+        from = λ k m h. let e = its here k [] h in let l = ltb-false _ _ (above k [] m (omega arith)) in omega arith;
+      });
+    }
