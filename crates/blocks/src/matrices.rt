@@ -31,6 +31,7 @@ fn level_row(zero: u8, one: u8, l: usize, columns: usize, cells: &mut [Entry; 8]
     requires { (l < 12) × (columns ≤ 8) }
     ensures { RowStored cells.new (node_entry zero one l) columns }
 {
+    // By number: v is the node that an edge goes to.
     for v in 0..columns {
         cells[v] = rail(zero, one, l, v);
     }
@@ -43,6 +44,7 @@ fn level(d: &Diagram, l: usize, cells: &mut Rows)
 {
     let edges = d.level(l);
     let columns = d.width(l + 1);
+    // By number: u is a node and its row.
     for u in 0..d.width(l) {
         level_row(edges[2 * u], edges[2 * u + 1], l, columns, &mut cells[u]);
     }

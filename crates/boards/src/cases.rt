@@ -50,7 +50,7 @@ fn show_line<W: Write>(out: &mut W, line: &[u8]) -> io::Result<()> {
     writeln!(out, ": misspelt")
 }
 
-// The kinds stand beside what each shows, in place of an enum whose cases this would name once more.
+// A kind is read where it is shown: an enum of kinds would only name each once more.
 fn show<W: Write>(out: &mut W, kind: u8, case: &[u8]) -> io::Result<()> {
     let file = reader::nth(case, 0);
     match kind {

@@ -8,6 +8,7 @@ use std::io;
 use std::io::{Read, Write};
 
 fn main(rt: HostRuntime) -> io::Result<()> {
+    // Memory is fixed, so that the length of what was read stands beside it.
     let mut text = [0u8; 65536];
     let mut reader = rt.reader();
     let mut len = 0;

@@ -2,9 +2,16 @@
 // hidden, and what stands in the lent buffer from a place on: behind the netlist's file, every line's value from line 0 up.
 use std::io;
 use std::io::Write;
-use stuck::Way;
+use stuck::{Probed, Way};
 use text::print::Signs;
-use text::spelling;
+use text::{print, spelling};
+
+// What is shown behind a refusal.
+const ZERO: Probed = Probed {
+    input: 0,
+    output: 0,
+    way: Way::BothLow,
+};
 
 pub fn show<W: Write>(out: &mut W, table: &[u8], case: &[u8]) -> io::Result<()> {
     let len = spelling::number(out, case, 1, 10610)?;
@@ -12,17 +19,16 @@ pub fn show<W: Write>(out: &mut W, table: &[u8], case: &[u8]) -> io::Result<()> 
     let mut lent = [b'.'; 10609];
     let lines = &mut lent[..len];
     let probed = probe::probe(table, reader::nth(case, 3), lines);
-    let way = match probed.way {
+    let number = print::refusal(&probed);
+    let Probed { input, output, way } = probed.unwrap_or(ZERO);
+    let way = match way {
         Way::BothLow => "both low",
         Way::BothHigh => "both high",
         Way::Hidden => "hidden",
     };
     write!(
         out,
-        ": {}, input {}, output {}, {way}, lines {}",
-        probed.refusal,
-        probed.input,
-        probed.output,
+        ": {number}, input {input}, output {output}, {way}, lines {}",
         Signs(&lines[from.min(len)..])
     )
 }

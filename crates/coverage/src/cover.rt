@@ -11,14 +11,14 @@ ghost use Rattle.coverage.specs.Inner.Gathering.{Marked, PutIf, AddedIf, Gathere
 use cubes::Cube;
 use rulesheet::Sheet;
 
-// Question 19's answer.
+// Question 19's answer. An enum of its own: `shares_number` states the number of each case.
 #[derive(Clone, Copy, Drop)]
 pub enum Shares {
     Apart,
     Shared,
 }
 
-// Question 20's answer.
+// Question 20's answer. An enum of its own: `gaps_number` states the number of each case.
 #[derive(Clone, Copy, Drop)]
 pub enum Gaps {
     Covered,

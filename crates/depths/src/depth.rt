@@ -12,6 +12,7 @@ fn scan(gates: &[u8], first: usize, depths: &mut [u16]) -> u16
     ensures { result ≡ largest (depths_from gates.now first (length gates.now / 5)) }
 {
     let mut deepest: u16 = 0;
+    // By number: gate g is on line first + g.
     for g in 0..gates.len() / 5 {
         let gate = netlist::gate_at(gates, g);
         let depth = depths[gate.left as usize].max(depths[gate.right as usize]) + 1;

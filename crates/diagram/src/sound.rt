@@ -8,14 +8,14 @@ ghost use Rattle.diagram.specs.Inner.Fit.{Fit};
 
 use crate::Diagram;
 
-// Question 5's answer.
+// Question 5's answer. An enum of its own: `range_number` states the number of each case.
 #[derive(Clone, Copy, Drop)]
 pub enum Range {
     Within,
     Outside,
 }
 
-// Question 7's answer.
+// Question 7's answer. An enum of its own: `numbering_number` states the number of each case.
 #[derive(Clone, Copy, Drop)]
 pub enum Numbering {
     InTurn,

@@ -7,21 +7,21 @@ ghost use Rattle.drive.specs.Questions.{is_bit, rails_of, rank_of, is_hold, orde
 
 use netlist::Hold;
 
-// Question 13's answer.
+// Question 13's answer. An enum of its own: `rails_number` states the number of each case.
 #[derive(Clone, Copy, Drop)]
 pub enum Rails {
     Driven,
     Undriven,
 }
 
-// Question 14's answer.
+// Question 14's answer. An enum of its own: `holds_number` states the number of each case.
 #[derive(Clone, Copy, Drop)]
 pub enum Holds {
     Ordered,
     Disordered,
 }
 
-// Question 21's answer.
+// Question 21's answer. An enum of its own: `place_number` states the number of each case.
 #[derive(Clone, Copy, Drop)]
 pub enum Place {
     Within,

@@ -6,7 +6,7 @@ ghost use Rattle.std.specs.Prelude.{◌≡◌, get_or, drop};
 ghost use Rattle.fields.specs.Fields.{raw_step_at, value_of, fields_of, number_of};
 ghost use Rattle.fields.specs.Inner.Walk.{step_at, items_from};
 
-// One field of a file: its tag, and the place and the length of its value.
+// One field of a file: its tag, and the place and the length of its value, since `raw_step_at` and `past` speak of the place.
 #[derive(Clone, Copy, Drop)]
 pub struct Field {
     pub tag: u8,
@@ -31,7 +31,7 @@ pub enum Step {
     Cut,
 }
 
-// Whether a file splits into whole fields with nothing left over.
+// Whether a file splits into whole fields with nothing left over. An enum of its own: `framing_number` states the number of each case.
 #[derive(Clone, Copy, Drop)]
 pub enum Framing {
     Whole,

@@ -5,7 +5,7 @@ ghost use Rattle.files.specs.Room.{room_of, length_in};
 
 use crate::Refusal;
 
-// Question 9's answer.
+// Question 9's answer. An enum of its own: `room_number` states the number of each case.
 #[derive(Clone, Copy, Drop)]
 pub enum Room {
     Enough,

@@ -1,16 +1,17 @@
 -- A tree of elements joined is that of its first half, rounded up, and of the rest, and the join of both.
 use Prim.Native.Nat.{◌+◌, ◌/◌, ◌≤◌}
 use native.Mathlib.Omega.{arith}
-use mathlib.Core.Path.{◌≡◌}
-use mathlib.Core.List.{List}
+use mathlib.Core.Path.{◌≡◌, ◌∙◌}
+use mathlib.Core.List.{List, [], ◌∷◌}
 use lib.ListN.{length, get_or, take, drop, length-drop}
 use lib.Seq.{length-take-le}
-use Rattle.rules.specs.Make.{Make, ◌>>=◌}
-use Rattle.rules.specs.Blocks.{cut, tree}
+use Rattle.rules.specs.Make.{Make, return, ◌>>=◌}
+use Rattle.rules.specs.Blocks.{cut_within, cut, tree}
 use Rattle.gates.specs.declared.gate.Gates.{Gates}
 use Rattle.gates.specs.Inner.Written.{Written, RoomFor}
 use Rattle.rules.proofs.Cuts.{size-cut}
 use Rattle.rules.proofs.Halves.{cut-single, cut-halves}
+use Rattle.gates.proofs.Binding.{return-bind}
 use Rattle.gates.proofs.Rooms.{room-first, room-then}
 use Rattle.gates.proofs.Writing.{written-return, written-bind}
 
@@ -22,6 +23,13 @@ module _ {A : Type 0} (none : A) (join : A → A → Make A) where
   pub single : (xs : List A) {g : Gates} → length xs ≡ 1 → Written (whole xs) g g (get_or xs 0 none)
   unfolding tree
   single xs e = rw (cut-single (length xs) e) (written-return _)
+
+  pub pair-is : (xs : List A) → length xs ≡ 2 → whole xs ≡ join (get_or xs 0 none) (get_or xs 1 none)
+  unfolding tree cut cut_within
+  pair-is [] e = absurd (omega arith)
+  pair-is (x ∷ []) e = absurd (omega arith)
+  pair-is (x ∷ y ∷ []) e = return-bind x (λ x. return y >>= λ y. join x y) ∙ return-bind y (λ y. join x y)
+  pair-is (x ∷ y ∷ z ∷ xs) e = absurd (omega arith)
 
   module _ (xs left right : List A) (more : 2 ≤ length xs)
       (front : left ≡ take ((length xs + 1) / 2) xs) (back : right ≡ drop ((length xs + 1) / 2) xs) where

@@ -31,6 +31,10 @@ impl<'a> Gates<'a> {
         if lines.len() == 1 {
             return lines[0];
         }
+        // Not needed, but quicker.
+        if lines.len() == 2 {
+            return self.gate(1, lines[0], lines[1]);
+        }
         let (left, right) = lines.split_at((lines.len() + 1) / 2);
         let one = self.or_tree(left);
         let other = self.or_tree(right);

@@ -10,7 +10,8 @@ use crate::few::Few;
 use gates::Gates;
 use rules::Entry;
 
-// A matrix by its rows of entries, of which as many count as the levels on both sides have nodes.
+// A matrix by its rows of entries, of which as many count as the levels on both sides have nodes. The diagram has these counts, so
+// that no matrix stores them.
 pub type Rows = [[Entry; 8]; 8];
 
 // The factors of a row: the middle nodes whose factor is not never, upward, and whether some factor is always.
@@ -28,6 +29,7 @@ fn factors_of(left: &Rows, middle: usize, u: usize) -> Factors
 {
     let mut nodes = Few::new(0);
     let mut some = false;
+    // By number: w is the middle node that is listed.
     for w in 0..middle {
         match left[u][w] {
             Entry::Never => {}
@@ -60,6 +62,7 @@ fn crosses(left: &Rows, right: &Rows, middle: usize, u: usize, v: usize, some: b
     if !some {
         return false;
     }
+    // By number: w is a column of one matrix and a row of the other.
     for w in 0..middle {
         if are_always(left[u][w], right[w][v]) {
             return true;
@@ -133,6 +136,7 @@ fn row(
         (λ v. get_or (row_of middle left.now right.now columns u (free_line gates.old)).1 v Entry.Never) columns }
 {
     let factors = factors_of(left, middle, u);
+    // By number: v is a column of the right matrix, too.
     for v in 0..columns {
         cells[v] = entry(left, right, middle, u, v, &factors, gates);
     }
@@ -154,6 +158,7 @@ pub fn multiply(
     ensures stored { Stored cells.new
         (entry_at (product rows middle columns left.now right.now (free_line gates.old)).1) rows columns }
 {
+    // By number: u is a row of the left matrix, too.
     for u in 0..rows {
         row(left, right, middle, columns, u, gates, &mut cells[u]);
     }

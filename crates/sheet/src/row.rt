@@ -57,7 +57,8 @@ fn sign(x: u16, power: u16) -> u8
     }
 }
 
-// A number in five characters, standing right, and a sign behind it.
+// A number in five characters, standing right, and a sign behind it. By hand: `write!` to a slice gives a Result, and nothing can fail
+// here.
 fn put_decimal(text: &mut [u8], at: usize, x: u16, behind: u8)
     requires { at + 6 ≤ length text.old }
     ensures { text.new ≡ sets text.old at (in_five x ++ (behind ∷ [])) }

@@ -7,7 +7,7 @@ ghost use Rattle.stuck.specs.Inner.Findings.{AcceptedDiagram};
 
 use diagram::Diagram;
 
-// Question 15's answer.
+// Question 15's answer. An enum of its own: `fanout_number` states the number of each case.
 #[derive(Clone, Copy, Drop)]
 pub enum Fanout {
     Read,

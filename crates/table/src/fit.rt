@@ -6,7 +6,7 @@ ghost use Rattle.table.specs.Table.{outputs_in, levels_in};
 
 use fields::{Cursor, Field, Step};
 
-// Question 4's answer.
+// Question 4's answer. An enum of its own: `levels_number` states the number of each case.
 #[derive(Clone, Copy, Drop)]
 pub enum Levels {
     Given,

@@ -5,7 +5,7 @@ ghost use Rattle.wiring.specs.Questions.{is_gate, is_pair, are_gates, are_pairs,
 
 use crate::parts::Parts;
 
-// Question 12's answer.
+// Question 12's answer. An enum of its own: `wiring_number` states the number of each case.
 #[derive(Clone, Copy, Drop)]
 pub enum Wiring {
     Sound,
