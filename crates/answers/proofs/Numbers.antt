@@ -3,12 +3,11 @@ use Prim.Native.Nat.{ℕ, zero, suc, ◌≤◌}
 use native.Mathlib.Omega.{arith}
 use mathlib.Core.List.{List, [], ◌∷◌}
 use lib.ListN.{drop}
+use Rattle.std.specs.Prelude.{Option, Some, None}
 use Rattle.fields.specs.declared.Framing.{Framing}
 use Rattle.fields.specs.declared.Framing.TheVariants.{Whole, Broken}
 use Rattle.fields.specs.Fields.{fields_of}
 use Rattle.fields.specs.Refusals.{framing_number, first_no}
-use Rattle.files.specs.declared.header.Contacts.{Contacts}
-use Rattle.files.specs.declared.header.Contacts.TheVariants.{Counted, Uncounted}
 use Rattle.files.specs.Header.{contacts_in, contacts_of, contacts_number}
 use Rattle.diagram.specs.declared.sound.Range.{Range}
 use Rattle.diagram.specs.declared.sound.Range.TheVariants.{Within, Outside}
@@ -16,10 +15,7 @@ use Rattle.diagram.specs.declared.sound.Numbering.{Numbering}
 use Rattle.diagram.specs.declared.sound.Numbering.TheVariants.{InTurn, OutOfTurn}
 use Rattle.diagram.specs.Questions.{range_of, numbering_of}
 use Rattle.twins.specs.Twins.{twins_of}
-use Rattle.twins.specs.declared.Twins.{Twins}
-use Rattle.twins.specs.declared.Twins.TheVariants.{Absent, Present}
-use Rattle.table.specs.declared.fit.Outputs.{Outputs}
-use Rattle.table.specs.declared.fit.Outputs.TheVariants.{Listed, Unlisted}
+use Rattle.twins.specs.declared.Pair.{Pair}
 use Rattle.table.specs.declared.fit.Levels.{Levels}
 use Rattle.table.specs.declared.fit.Levels.TheVariants.{Given, Lacking}
 use Rattle.table.specs.Table.{outputs_number, outputs_in, levels_number, levels_in, range_number, twins_number, numbering_number, diagram_in}
@@ -38,13 +34,13 @@ framing : (f : Framing) → framing_number f ≤ 7
 framing Whole = omega arith
 framing Broken = omega arith
 
-contacts : (c : Contacts) → contacts_number c ≤ 7
-contacts (Counted n) = omega arith
-contacts Uncounted = omega arith
+contacts : (c : Option ℕ) → contacts_number c ≤ 7
+contacts (Some n) = omega arith
+contacts None = omega arith
 
-outputs : (o : Outputs) → outputs_number o ≤ 7
-outputs (Listed m) = omega arith
-outputs Unlisted = omega arith
+outputs : (o : Option ℕ) → outputs_number o ≤ 7
+outputs (Some m) = omega arith
+outputs None = omega arith
 
 levels : (l : Levels) → levels_number l ≤ 7
 levels Given = omega arith
@@ -54,9 +50,9 @@ range : (r : Range) → range_number r ≤ 7
 range Within = omega arith
 range Outside = omega arith
 
-twins : (t : Twins) → twins_number t ≤ 7
-twins Absent = omega arith
-twins (Present p) = omega arith
+twins : (t : Option Pair) → twins_number t ≤ 7
+twins None = omega arith
+twins (Some p) = omega arith
 
 numbering : (n : Numbering) → numbering_number n ≤ 7
 numbering InTurn = omega arith

@@ -2,8 +2,7 @@
 use Rattle.std.specs.Prelude.{ℕ, List}
 use Rattle.stuck.specs.declared.answer.Way.{Way}
 use Rattle.stuck.specs.declared.answer.Way.TheVariants.{BothLow, BothHigh, Hidden}
-use Rattle.stuck.specs.declared.answer.Probed as core
-use Rattle.stuck.specs.Service.{Probing, probing_of}
+use Rattle.stuck.specs.Service.{Answer, Probing, probing_of}
 use Rattle.answers.specs.declared.Probed.{Probed}
 
 -- Low is 0, high is 1, hidden is 2.
@@ -12,7 +11,7 @@ way_number BothLow = 0
 way_number BothHigh = 1
 way_number Hidden = 2
 
-abbrev pub probed_by : core.Probed → Probed
+abbrev pub probed_by : Answer → Probed
 probed_by p = record { refusal = p.refusal; input = p.input; output = p.output; way = way_number p.way }
 
 -- What probe returns to C, and what it leaves in the lent buffer.

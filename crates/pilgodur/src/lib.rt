@@ -21,7 +21,7 @@ use table::Reading;
 pub extern "C" fn pilgodur_check(table: &[u8]) -> Checked
     ensures { result ≡ checked_of table.now }
 {
-    synthesis::check(table)
+    Checked::from(synthesis::check(table))
 }
 
 // Builds a table's netlist: questions 1 to 7, then 9; the file's bytes and its length.
@@ -30,7 +30,7 @@ pub extern "C" fn pilgodur_build(table: &[u8], file: &mut [u8]) -> Written
     ensures { record { refusal = result.refusal; length = result.length; buffer = file.new }
         ≡ building_of table.now file.old }
 {
-    synthesis::build(table, file)
+    Written::from(synthesis::build(table, file))
 }
 
 // Builds a table's netlist with its lamp: questions 1 to 7, then 9; the file's bytes and its length.
@@ -39,7 +39,7 @@ pub extern "C" fn pilgodur_build_with_lamp(table: &[u8], file: &mut [u8]) -> Wri
     ensures { record { refusal = result.refusal; length = result.length; buffer = file.new }
         ≡ lamp_building_of table.now file.old }
 {
-    synthesis::build_with_lamp(table, file)
+    Written::from(synthesis::build_with_lamp(table, file))
 }
 
 // Reads a table's outputs off at an input: questions 1 to 7, then 10.
@@ -47,7 +47,7 @@ pub extern "C" fn pilgodur_build_with_lamp(table: &[u8], file: &mut [u8]) -> Wri
 pub extern "C" fn pilgodur_read_off(table: &[u8], input: u32) -> Reading
     ensures { result ≡ reading_of table.now input }
 {
-    table::read_off(table, input)
+    Reading::from(table::read_off(table, input))
 }
 
 // Runs a netlist with lines and pins held: questions 11 to 14, then 9 for either buffer.
@@ -62,7 +62,10 @@ pub extern "C" fn pilgodur_run(
     ensures { record { refusal = result; lines = lines.new; pairs = pairs.new }
         ≡ run_of netlist.now rails.now holds.now lines.old pairs.old }
 {
-    run::run(netlist, rails, holds, lines, pairs)
+    match run::run(netlist, rails, holds, lines, pairs) {
+        Ok(()) => 0,
+        Err(refusal) => refusal.number(),
+    }
 }
 
 // Works out so many lines of a run from a place on: questions 11 to 14, then 21, then 9 for either buffer; the place after them.
@@ -79,7 +82,8 @@ pub extern "C" fn pilgodur_step(
     ensures { record { refusal = result.refusal; place = result.place; lines = lines.new; pairs = pairs.new }
         ≡ step_of netlist.now rails.now holds.now place count lines.old pairs.old }
 {
-    run::step(netlist, rails, holds, place, count, lines, pairs)
+    let stepped = run::step(netlist, rails, holds, place, count, lines, pairs);
+    Stepped::from(stepped)
 }
 
 // Probes a stuck line or pin: questions 1 to 7, 14, 15, then 9.
@@ -88,14 +92,7 @@ pub extern "C" fn pilgodur_probe(table: &[u8], hold: &[u8], buffer: &mut [u8]) -
     ensures { record { answer = result; buffer = buffer.new }
         ≡ probe_of table.now hold.now buffer.old }
 {
-    let probed = probe::probe(table, hold, buffer);
-    let way = probed.way;
-    Probed {
-        refusal: probed.refusal,
-        input: probed.input,
-        output: probed.output,
-        way: answers::way_number(way),
-    }
+    Probed::from(probe::probe(table, hold, buffer))
 }
 
 // Writes a netlist's sheet: questions 11 and 12, then 9; the sheet's bytes and its length.
@@ -104,7 +101,7 @@ pub extern "C" fn pilgodur_sheet(netlist: &[u8], text: &mut [u8]) -> Written
     ensures { record { refusal = result.refusal; length = result.length; buffer = text.new }
         ≡ sheeting_of netlist.now text.old }
 {
-    sheet::sheet(netlist, text)
+    Written::from(sheet::sheet(netlist, text))
 }
 
 // Writes the table of a drawing's functions: question 16, then 17, then 9; the table's bytes and its length.
@@ -113,7 +110,7 @@ pub extern "C" fn pilgodur_from_drawing(drawing: &[u8], table: &mut [u8]) -> Wri
     ensures { record { refusal = result.refusal; length = result.length; buffer = table.new }
         ≡ from_drawing_of drawing.now table.old }
 {
-    truths::from_drawing(drawing, table)
+    Written::from(truths::from_drawing(drawing, table))
 }
 
 // Writes the table of a rule sheet: questions 18, 19, 20, 17, then 9; the table's bytes and its length.
@@ -122,5 +119,5 @@ pub extern "C" fn pilgodur_from_rules(rules: &[u8], table: &mut [u8]) -> Written
     ensures { record { refusal = result.refusal; length = result.length; buffer = table.new }
         ≡ from_rules_of rules.now table.old }
 {
-    coverage::from_rules(rules, table)
+    Written::from(coverage::from_rules(rules, table))
 }
