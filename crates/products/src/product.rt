@@ -6,7 +6,7 @@ ghost use Rattle.gates.specs.Inner.Written.{free_line, Written, Grown, RoomFor};
 ghost use Rattle.products.specs.Inner.Cells.{Stored, RowStored};
 ghost use Rattle.products.specs.Inner.Terms.{any_always, both_always, Listed, terms_of, row_of};
 
-use crate::few::Few;
+use few::Few;
 use gates::Gates;
 use rules::Entry;
 
