@@ -51,8 +51,8 @@ pub fn take_gates(gates: &[u8], first: usize, hold: Hold, taken: &mut [Gate])
     let left = batches::held_line(hold, Site::FirstPin);
     let right = batches::held_line(hold, Site::SecondPin);
     let level = u16::from(hold.value % 2);
-    for g in 0..gates.len() / 5 {
-        let gate = netlist::gate_at(gates, g);
+    for (g, gate) in gates.as_chunks::<5>().0.iter().enumerate() {
+        let gate = Gate::from(gate);
         taken[g] = Gate {
             kind: gate.kind,
             left: batches::show(left, level, first + g, gate.left),
