@@ -17,7 +17,8 @@ pub fn read(file: &[u8]) -> Result<Parts<'_>, Refusal>
     let Some(parts) = form::ask_form(file) else {
         return Err(Refusal::Form);
     };
-    let Wiring::Sound = sound::ask_wiring(&parts) else {
+    let Wiring::Sound = sound::ask_wiring(parts.contacts, parts.gates, parts.outputs, parts.lamp)
+    else {
         return Err(Refusal::Wiring);
     };
     Ok(parts)

@@ -3,8 +3,6 @@ ghost use Rattle.std.specs.Prelude.{◌≡◌, ◌+◌, ◌/◌, ◌≤◌, leng
 ghost use Rattle.netlist.specs.Netlist.{gate_at, pair_at};
 ghost use Rattle.wiring.specs.Questions.{is_gate, is_pair, are_gates, are_pairs, wiring_of};
 
-use crate::parts::Parts;
-
 // Question 12's answer. An enum of its own: `wiring_number` states the number of each case.
 #[derive(Clone, Copy, Drop)]
 pub enum Wiring {
@@ -57,14 +55,13 @@ fn pairs_sound(lines: usize, pairs: &[u8]) -> bool
 }
 
 // Question 12: is every kind 0 or 1, every source below its gate's own line, every output line and lamp line in the netlist?
-pub fn ask_wiring(parts: &Parts<'_>) -> Wiring
-    ensures { result ≡ wiring_of parts.now.contacts parts.now.gates.now parts.now.outputs.now parts.now.lamp.now }
+pub fn ask_wiring(n: usize, gates: &[u8], pairs: &[u8], lamp: &[u8]) -> Wiring
+    requires { (n ≤ 12) × (length gates.now / 5 ≤ 10602) }
+    ensures { result ≡ wiring_of n gates.now pairs.now lamp.now }
 {
-    let lines = parts.line_count();
-    if gates_sound(parts.gate_line(), parts.gates)
-        && pairs_sound(lines, parts.outputs)
-        && pairs_sound(lines, parts.lamp)
-    {
+    let first = 2 + 2 * n;
+    let lines = first + gates.len() / 5;
+    if gates_sound(first, gates) && pairs_sound(lines, pairs) && pairs_sound(lines, lamp) {
         Wiring::Sound
     } else {
         Wiring::Unsound
