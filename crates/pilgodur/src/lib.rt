@@ -88,6 +88,7 @@ pub extern "C" fn pilgodur_step(
 
 // Probes a stuck line or pin: questions 1 to 7, 14, 15, then 9.
 #[unsafe(no_mangle)]
+#[tactic(auto, unfolding(answers::specs::Answers::probe_of))]
 pub extern "C" fn pilgodur_probe(table: &[u8], hold: &[u8], buffer: &mut [u8]) -> Probed
     ensures { record { answer = result; buffer = buffer.new }
         ≡ probe_of table.now hold.now buffer.old }
