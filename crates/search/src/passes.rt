@@ -51,6 +51,7 @@ pub fn take_gates(gates: &[u8], first: usize, hold: Hold, taken: &mut [Gate])
     let left = batches::held_line(hold, Site::FirstPin);
     let right = batches::held_line(hold, Site::SecondPin);
     let level = u16::from(hold.value % 2);
+    // Written by index: after a zip with `taken.iter_mut()` nothing is known of `taken` (tried).
     for (g, gate) in gates.as_chunks::<5>().0.iter().enumerate() {
         let gate = Gate::from(gate);
         taken[g] = Gate {
