@@ -9,13 +9,13 @@ LINES = {
     "1 enums of the repository's own": r"^\s*(pub )?enum ",
     "1 a flag or a number beside values": r"^\s*(pub )?(refusal: u32|found: bool|four: bool|some: bool|ends: bool),",
     "1 numbers for refusals and for nothing": r"return ((files::|stuck::)?refused\()?[0-9]+\)?;|(refusal|first|second|no) != 0|refusal: [0-9]+,|NO_BYTE",
-    "2 the same call with a buffer of another length": r"if \w+(\.len\(\))? <= [0-9]+ \{$",
+    "2 choices of a buffer's length": r"\b(most|count|len\(\)|len\(\) / 5|node_count\(\)) <= ([0-9]{2,}|8) \{$",
     "3 loops": r"^\s*('\w+: )?(for|while|loop)\b",
     "3 of these, over a range of numbers": r"^\s*for .* in \(?[a-z0-9_]+\.\.",
     "4 conversions, equality, order and printing by hand":
         r"fn (entry_of|line_of|is_always|way_number|way_of|kind_of|larger|greater|lesser|wide|byte_of|sign_of|copy|fill|repeat|put|same_words"
         r"|number_at|sign|byte|form|text|bytes|show_way|show_pair|put_kind|put_decimal|digits)\b",
-    "6 arrays of a fixed length": r"\[(0|b'.')?(u8|u16|u64|usize)?; [0-9_]+\]",
+    "6 arrays of a fixed length": r"; ([0-9_]+|[A-Z]+)\]",
     "7 flags and numbers that say which step to run": r"^\s*(lamp|closed|some): bool,|lamp: bool,|match kind \{|\bsite: u8|\bhalf: usize",
 }
 
