@@ -38,8 +38,7 @@ fn show_at(board: Board, hold: &[u8], input: u32, lines: &mut [u8])
 {
     let rails = code_rails(input);
     let rails = rails[..board.contacts].as_flattened();
-    let end = 2 + 2 * board.contacts + board.gates.len() / 5;
-    evaluation::work_out(board.gates, rails, hold, 2, end, lines);
+    evaluation::work_out(board.gates, rails, hold, 2, board.line_count(), lines);
 }
 
 // Writes the netlist's file and, behind it, every line's value at a code input with a line or pin held, and returns where these
@@ -87,7 +86,7 @@ fn find(board: Board, hold: &[u8], buffer: &mut [u8]) -> Probed
         return Probed::hidden();
     };
     let start = write_at(board, hold, input, buffer);
-    let end = start + (2 + 2 * board.contacts + board.gates.len() / 5);
+    let end = start + board.line_count();
     name_output(board.pairs, &buffer[start..end], input)
 }
 

@@ -44,17 +44,16 @@ fn search_in(
     requires fit { BuffersFit board.contacts board.gates.now (length taken.old) (length batches.old) }
     ensures { result ≡ found_in (net_of board.entry.contacts board.entry.gates.now board.entry.pairs.now) hold }
 {
-    let first = 2 + 2 * board.contacts;
-    let count = board.gates.len() / 5;
-    passes::take_gates(board.gates, first, hold, taken);
+    passes::take_gates(board, hold, taken);
     let held = HeldBoard {
         board,
         hold,
-        taken: &taken[..count],
+        taken: &taken[..board.gates.len() / 5],
     };
+    let lines = board.line_count();
     for base in (0..1usize << board.contacts).step_by(128) {
         held.work_batches(base, batches);
-        let masks = agreeing(board.pairs, &batches[..first + count]);
+        let masks = agreeing(board.pairs, &batches[..lines]);
         if masks.first != 0 {
             return Some(base as u32 + bits::lowest_bit(masks.first));
         }

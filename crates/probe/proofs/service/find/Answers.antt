@@ -28,10 +28,10 @@ module _ (n : ℕ) (gates pairs : List ℕ) (h : Hold) (input : ℕ) where
   abbrev values : List ℕ
   values = stuck_at (net_of n gates pairs) h input
 
-  part : (at : ℕ) (before : List ℕ) {after : List ℕ} → at ≡ 10 + length gates + length pairs →
-      after ≡ over (file_with n gates pairs [] ++ values) before → take (at + (gate_line n + length gates / 5) - at) (drop at after) ≡ values
-  part at before e w =
-      let count = gate_line n + length gates / 5 in
+  part : (at : ℕ) (before : List ℕ) {after : List ℕ} {count : ℕ} → at ≡ 10 + length gates + length pairs →
+      after ≡ over (file_with n gates pairs [] ++ values) before → count ≡ gate_line n + length gates / 5 →
+      take (at + count - at) (drop at after) ≡ values
+  part at before {count = count} e w many =
       let lines = length-lines n gates pairs h input in
       ap (λ (l : List ℕ). take (at + count - at) (drop at l)) w
       ∙ read_behind (file_with n gates pairs []) values before at (at + count - at) (length-file n gates pairs [] ∙ add-zero _ ∙ sym e) (omega arith)
@@ -47,7 +47,7 @@ name_output-requires c =
     let a = c.args in
     let h = hold_at a.hold.now 0 in
     let w = c.write_at-start in
-    let shown = part a.board.contacts a.board.gates.now a.board.pairs.now h c.in-Some.input w.result a.buffer.now w.ensures.value w.ensures.buffer_after in
+    let shown = part a.board.contacts a.board.gates.now a.board.pairs.now h c.in-Some.input w.result a.buffer.now w.ensures.value w.ensures.buffer_after c.line_count.ensures in
     let count = length-lines a.board.contacts a.board.gates.now a.board.pairs.now h c.in-Some.input in record {
       pairs_value = (rw (shown, count) a.board.paired, c.requires.bytes.1);
       lines_value = rw shown (betrayed-at (net_of a.board.contacts a.board.gates.now a.board.pairs.now) h c.in-Some.input
@@ -58,7 +58,7 @@ pub returns : goal.returns
 returns c =
     let a = c.args in
     let w = c.write_at-start in
-    let shown = part a.board.contacts a.board.gates.now a.board.pairs.now (hold_at a.hold.now 0) c.in-Some.input w.result a.buffer.now w.ensures.value w.ensures.buffer_after in
+    let shown = part a.board.contacts a.board.gates.now a.board.pairs.now (hold_at a.hold.now 0) c.in-Some.input w.result a.buffer.now w.ensures.value w.ensures.buffer_after c.line_count.ensures in
     answer-seen _ _ _ a.buffer.now c.in-Some.input (sym c.in-Some.is ∙ searched (goal.at.returns c).After-search)
     (c.name_output.ensures ∙ ap (found_at (pairs_of a.board.pairs.now) c.in-Some.input) shown)
     c.write_at-start.ensures.buffer_after

@@ -13,14 +13,14 @@ loop-g-init c = λ g l. absurd (omega arith)
 
 pub loop-g-preserved : goal.loop-g-preserved
 loop-g-preserved c =
-    let high : 2 ≤ c.args.first + c.loop-g.g = omega (arith, c.requires.0) in
+    let high : 2 ≤ c.gate_line-first.result + c.loop-g.g = omega (arith, c.gate_line-first.ensures) in
     let gate = c.gate_at-gate.ensures in
     let left = taken c.args.hold _ 1 _ high c.held_line-left.ensures c.from-level.ensures (ap (λ (x : Gate). x.left) gate) c.show.ensures in
     let right = taken c.args.hold _ 2 _ high c.held_line-right.ensures c.from-level.ensures (ap (λ (x : Gate). x.right) gate) c.show-in-loop-g.ensures in
-    taken-more _ c.args.hold c.args.gates.now c.loop-g.taken c.loop-g.g _ (omega arith)
+    taken-more _ c.args.hold c.args.board.gates.now c.loop-g.taken c.loop-g.g _ (omega arith)
     (λ i. record { kind = (gate i).kind; left = left i; right = right i }) c.loop-g.invariant
 
 pub returns : goal.returns
 returns c =
-    let e : c.loop-g.g ≡ length c.args.gates.now / 5 = omega arith in
-    rw e at c.loop-g.invariant
+    let e : c.loop-g.g ≡ length c.args.board.gates.now / 5 = omega arith in
+    rw (c.gate_line-first.ensures, e) at c.loop-g.invariant
