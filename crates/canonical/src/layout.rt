@@ -8,11 +8,12 @@ ghost use Rattle.canonical.specs.Inner.Blocks.{mention_at, is_few, blocks_at, ne
 ghost use Rattle.canonical.specs.Service.{laid_of, tabling_of};
 
 use crate::blocks::Truths;
-use crate::levels::Level;
+use crate::levels::halve;
+use few::Few;
 use files::{Refusal, Room};
 
 // Writes the fields before the levels' and lists the functions of the outputs; none if they are more than eight.
-fn put_outputs(truths: Truths<'_>, outputs: &[usize], file: &mut [u8]) -> Option<Level>
+fn put_outputs(truths: Truths<'_>, outputs: &[usize], file: &mut [u8]) -> Option<Few<usize>>
     requires { (length outputs.now ≤ 8) × Blocks truths.words.now truths.left outputs.now
         × (7 + length outputs.now ≤ length file.old) }
     ensures value { let f = mention_at truths.entry.words.now truths.entry.left outputs.now in
@@ -30,7 +31,7 @@ fn put_outputs(truths: Truths<'_>, outputs: &[usize], file: &mut [u8]) -> Option
 }
 
 // Writes the field of a level and lists the functions of the next, halves of the level's own; none if they are more than eight.
-fn put_level(truths: Truths<'_>, level: &Level, file: &mut [u8], at: usize) -> Option<Level>
+fn put_level(truths: Truths<'_>, level: &[usize], file: &mut [u8], at: usize) -> Option<Few<usize>>
     requires { (truths.left ≤ 11) × (length level.now ≤ 8) × Blocks truths.words.now (suc truths.left) level.now
         × (length truths.words.now ≤ 512) × (at + 3 + 2 * length level.now ≤ length file.old) }
     ensures value { let fs = blocks_at truths.entry.words.now (suc truths.entry.left) level.now in
@@ -39,8 +40,8 @@ fn put_level(truths: Truths<'_>, level: &Level, file: &mut [u8], at: usize) -> O
         IfSome result (λ next. Put truths.entry.words.now truths.entry.left (next_of fs) at (level_bytes fs) file.old file.new next) }
 {
     let mut halves = [0usize; 16];
-    level.halve(truths.left, &mut halves);
-    let count = 2 * level.starts().len();
+    halve(level, truths.left, &mut halves);
+    let count = 2 * level.len();
     let mut numbers = [0u8; 16];
     let next = truths.enter(&halves[..count], &mut numbers[..count])?;
     files::put_field(file, at, 3, &numbers[..count]);
@@ -63,8 +64,9 @@ fn lay(words: &[u64], n: usize, outputs: &[usize], file: &mut [u8]) -> Option<us
             words,
             left: n - 1 - l,
         };
-        let next = put_level(truths, &level, file, at)?;
-        at += 3 + 2 * level.starts().len();
+        let starts = level.as_slice();
+        let next = put_level(truths, starts, file, at)?;
+        at += 3 + 2 * starts.len();
         level = next;
     }
     Some(at)

@@ -4,6 +4,8 @@ ghost use Rattle.netlist.specs.Netlist.{gates_of, net_with};
 ghost use Rattle.rules.specs.Board.{largest, depth_of};
 ghost use Rattle.depths.specs.Inner.Depths.{depths_from, SourcesBelow};
 
+use netlist::Gate;
+
 // Works out the depths of the gates, whose lines go from `first` up, and returns the largest.
 fn scan(gates: &[u8], first: usize, depths: &mut [u16]) -> u16
     requires count_bound { (length gates.now / 5 ≤ 65535) × (first + length gates.now / 5 ≤ length depths.old)
@@ -12,9 +14,8 @@ fn scan(gates: &[u8], first: usize, depths: &mut [u16]) -> u16
     ensures { result ≡ largest (depths_from gates.now first (length gates.now / 5)) }
 {
     let mut deepest: u16 = 0;
-    // By number: gate g is on line first + g.
-    for g in 0..gates.len() / 5 {
-        let gate = netlist::gate_at(gates, g);
+    for (g, gate) in gates.as_chunks::<5>().0.iter().enumerate() {
+        let gate = Gate::from(gate);
         let depth = depths[gate.left as usize].max(depths[gate.right as usize]) + 1;
         depths[first + g] = depth;
         deepest = deepest.max(depth);

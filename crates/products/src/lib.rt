@@ -1,7 +1,6 @@
 // Products of matrices of entries, and the gates that they make.
 #![tactic(auto)]
 
-mod few;
 mod product;
 
 pub use product::{Rows, multiply};

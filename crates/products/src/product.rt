@@ -6,7 +6,7 @@ ghost use Rattle.gates.specs.Inner.Written.{free_line, Written, Grown, RoomFor};
 ghost use Rattle.products.specs.Inner.Cells.{Stored, RowStored};
 ghost use Rattle.products.specs.Inner.Terms.{any_always, both_always, Listed, terms_of, row_of};
 
-use crate::few::Few;
+use few::Few;
 use gates::Gates;
 use rules::Entry;
 
@@ -59,16 +59,7 @@ fn crosses(left: &Rows, right: &Rows, middle: usize, u: usize, v: usize, some: b
     requires some_value { some ≡ any_always middle left.now u }
     ensures { result ≡ any middle (both_always left.now right.now u v) }
 {
-    if !some {
-        return false;
-    }
-    // By number: w is a column of one matrix and a row of the other.
-    for w in 0..middle {
-        if are_always(left[u][w], right[w][v]) {
-            return true;
-        }
-    }
-    false
+    some && (0..middle).any(|w| are_always(left[u][w], right[w][v]))
 }
 
 // The lines among the terms of the entry in row u and column v, in sequence. Terms of middle nodes that are not listed are never.

@@ -1,9 +1,9 @@
-// The smallest code input that betrays a held line or pin, and the lowest output that shows it.
+// The smallest code input that betrays a held line or pin.
 ghost use Rattle.std.specs.Prelude.{◌≡◌, true, ℕ, ◌+◌, ◌/◌, ◌≤◌, ◌<◌, length};
 ghost use Rattle.diagram.specs.Diagram.{bit};
 ghost use Rattle.netlist.specs.Netlist.{gate_line, pairs_of, net_of};
 ghost use Rattle.wiring.specs.Questions.{are_pairs};
-ghost use Rattle.faults.specs.Betrayal.{no_code, some_no_code, lowest_no_code};
+ghost use Rattle.faults.specs.Betrayal.{some_no_code};
 ghost use Rattle.batches.specs.Inner.Batches.{firsts, seconds, BuffersFit};
 ghost use Rattle.bits.specs.Inner.Bits.{bit_of, bits_of};
 ghost use Rattle.search.specs.Inner.Found.{found_in};
@@ -95,23 +95,4 @@ pub fn search(board: Board, hold: Hold) -> Option<u32>
         return search_within::<2278, 2304>(board, hold);
     }
     search_within::<10560, 10586>(board, hold)
-}
-
-// Whether output j's pair shows no code.
-fn is_no_code(pairs: &[u8], lines: &[u8], j: usize) -> bool
-    requires { (are_pairs (length lines.now) pairs.now ≡ true) × (j < length pairs.now / 4) }
-    ensures { result ≡ no_code (pairs_of pairs.now) lines.now j }
-{
-    let pair = netlist::pair_at(pairs, j);
-    lines[usize::from(pair.on)] == lines[usize::from(pair.off)]
-}
-
-// The lowest output whose pair shows no code, which some output's does.
-pub fn lowest(pairs: &[u8], lines: &[u8]) -> u32
-    requires pairs { (are_pairs (length lines.now) pairs.now ≡ true) × (length pairs.now / 4 ≤ 8) }
-    requires lines { some_no_code (pairs_of pairs.now) lines.now ≡ true }
-    ensures { result ≡ lowest_no_code (pairs_of pairs.now) lines.now }
-{
-    let count = pairs.len() / 4;
-    (0..count).find(|j| is_no_code(pairs, lines, *j)).unwrap() as u32
 }

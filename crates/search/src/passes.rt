@@ -52,8 +52,9 @@ pub fn take_gates(board: Board, hold: Hold, taken: &mut [Gate])
     let right = batches::held_line(hold, Site::SecondPin);
     let level = u16::from(hold.value % 2);
     let first = board.gate_line();
-    for g in 0..board.gates.len() / 5 {
-        let gate = netlist::gate_at(board.gates, g);
+    // Written by index: after a zip with `taken.iter_mut()` nothing is known of `taken` (tried).
+    for (g, gate) in board.gates.as_chunks::<5>().0.iter().enumerate() {
+        let gate = Gate::from(gate);
         taken[g] = Gate {
             kind: gate.kind,
             left: batches::show(left, level, first + g, gate.left),

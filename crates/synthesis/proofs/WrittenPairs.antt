@@ -4,8 +4,8 @@ use native.Mathlib.Omega.{arith}
 use mathlib.Core.Path.{◌≡◌, refl, sym, ap, ◌∙◌}
 use mathlib.Core.Bool.{true}
 use mathlib.Core.List.{List, [], ◌∷◌, ◌++◌, flat_map}
-use lib.ListN.{length, get_or}
-use lib.Seq.{sets}
+use lib.ListN.{length, get_or, take}
+use lib.Seq.{sets, length-take-le, get_or-take}
 use Rattle.diagram.specs.declared.Diagram.{Diagram}
 use Rattle.diagram.specs.Diagram.{root}
 use Rattle.diagram.specs.Questions.{Sized, in_range}
@@ -48,6 +48,15 @@ module _ (f : ℕ → Pair) where
       ∙ sets_more start 0 (4 * j) (bytes_of f j) (pair_bytes (f j)) (omega (arith, bytes-length j))
       ∙ ap (sets start 0) (sym (bytes-more j))
 
-pub root-low : (d : Diagram) → Sized d → in_range d ≡ true → (j : ℕ) → j < d.outputs → get_or d.roots j 0 < 8
-unfolding root
-root-low d sized sound j h = omega (arith, root_in d sound j h, sized.widths 0 sized.contacts.0)
+-- The output list has so many entries.
+pub roots-long : (d : Diagram) → Sized d → length d.roots ≡ 8 → length (take d.outputs d.roots) ≡ d.outputs
+roots-long d sized long = length-take-le d.outputs d.roots (omega (arith, sized.outputs, long))
+
+-- Output j of the output list is root j, one of eight nodes.
+module _ (d : Diagram) (j : ℕ) (h : j < d.outputs) where
+  pub root-taken : get_or (take d.outputs d.roots) j 0 ≡ root d j
+  unfolding root
+  root-taken = get_or-take d.outputs d.roots j 0 h
+
+  pub root-low : Sized d → in_range d ≡ true → get_or (take d.outputs d.roots) j 0 < 8
+  root-low sized sound = omega (arith, root-taken, root_in d sound j h, sized.widths 0 sized.contacts.0)

@@ -32,9 +32,8 @@ fn put_pairs(d: &Diagram, cells: &Rows, pairs: &mut [u8])
     ensures { pairs.new
         ≡ sets pairs.old 0 (flat_map pair_bytes (listed (pair_of d.now cells.now) d.now.outputs 0)) }
 {
-    // By number: output j has its own place among the pairs.
-    for j in 0..d.outputs {
-        let node = d.roots[j] as usize;
+    for (j, root) in d.roots[..d.outputs].iter().enumerate() {
+        let node = *root as usize;
         files::put_number(pairs, 4 * j, u16::from(cells[node][1]));
         files::put_number(pairs, 4 * j + 2, u16::from(cells[node][0]));
     }

@@ -23,11 +23,12 @@ returns-in_err-next-clause-value c =
     let a = c.args in
     c.from_residual-in_err-next.ensures
     ∙ answer-wide _ a.n (length a.outputs.now)
-    (next-wide _ a.n (length a.outputs.now) c.loop-l.invariant c.loop-l-test.true c.in_err-next.ensures.value)
+    (next-wide _ a.n (length a.outputs.now) c.loop-l.invariant c.loop-l-test.true (rw c.as_slice-starts.ensures.are at c.in_err-next.ensures.value))
 
 pub loop-l-preserved : goal.loop-l-preserved
 loop-l-preserved c =
-    rw c.starts.ensures.are (laid_more _ c.args.n (length c.args.outputs.now) c.loop-l.invariant c.loop-l-test.true c.in_ok-next.ensures.put)
+    rw c.as_slice-starts.ensures.are
+    (laid_more _ c.args.n (length c.args.outputs.now) c.loop-l.invariant c.loop-l-test.true (rw c.as_slice-starts.ensures.are at c.in_ok-next.ensures.put))
 
 pub returns-clause-value : goal.returns-clause-value
 returns-clause-value c =

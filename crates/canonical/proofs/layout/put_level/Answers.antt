@@ -11,47 +11,45 @@ use Rattle.fields.specs.Fields.{field_bytes}
 use Rattle.canonical.specs.Inner.Blocks.{is_few}
 use Rattle.canonical.proofs.Halves.{halves-blocks, next_level}
 use Rattle.canonical.proofs.Prefixes.{level-put}
-use Rattle.canonical.proofs.layout.put_level.Goals.{After-starts}
+use Rattle.canonical.proofs.layout.put_level.Goals.{After-halve}
 use Rattle.canonical.proofs.layout.put_level.Goals as goal
 
 -- The halves that are mentioned.
-long : (c : After-starts) → let mentions = take (2 * length c.starts.result.now) c.halve.new.halves in
+long : (c : After-halve) → let mentions = take (2 * length c.args.level.now) c.halve.new.halves in
     length mentions ≡ 2 * length c.args.level.now
 long c =
-    let n = ap length c.starts.ensures.are in
     let size : length c.halve.new.halves ≡ 16 = search rules in
-    length-take-le (2 * length c.starts.result.now) c.halve.new.halves (omega (arith, n, size, c.starts.ensures.few)) ∙ omega (arith, n)
+    length-take-le (2 * length c.args.level.now) c.halve.new.halves (omega (arith, size, c.requires.1))
 
-split : (c : After-starts) → let mentions = take (2 * length c.starts.result.now) c.halve.new.halves in
+split : (c : After-halve) → let mentions = take (2 * length c.args.level.now) c.halve.new.halves in
     (k : ℕ) → k < 2 * length c.args.level.now → get_or mentions k 0 ≡ get_or c.args.level.now (k / 2) 0 + k % 2 * 2 ^ c.args.truths.left
-split c k l =
-    get_or-take (2 * length c.starts.result.now) c.halve.new.halves k 0 (omega (arith, ap length c.starts.ensures.are)) ∙ c.halve.ensures k l
+split c k l = get_or-take (2 * length c.args.level.now) c.halve.new.halves k 0 l ∙ c.halve.ensures k l
 
 pub enter-requires : goal.enter-requires
 enter-requires c =
     let t = c.args.truths in
-    let start = (goal.at.enter-requires c).After-starts in (
+    let start = (goal.at.enter-requires c).After-halve in (
       halves-blocks t.words.now t.left c.args.level.now _ c.requires.2 (long start) (split start),
-      length-take-le _ _ (omega (arith, ap length c.starts.ensures.are, c.starts.ensures.few)) ∙ sym (long start ∙ ap (◌*◌ 2) (sym (ap length c.starts.ensures.are))),
+      length-take-le _ _ (omega (arith, c.requires.1)) ∙ sym (long start),
     )
 
 pub returns-in_err-next-clause-value : goal.returns-in_err-next-clause-value
 returns-in_err-next-clause-value c =
     let t = c.args.truths in
-    let start = (goal.at.returns-in_err-next-clause-value c).After-starts in
+    let start = (goal.at.returns-in_err-next-clause-value c).After-halve in
     ap is_some c.from_residual.ensures ∙ c.in_err-next.ensures.value
     ∙ ap (is_few t.left) (next_level t.words.now t.left c.args.level.now _ c.requires.2 (long start) (split start))
 
 pub returns-clause-value : goal.returns-clause-value
 returns-clause-value c =
     let t = c.args.truths in
-    let start = (goal.at.returns-clause-value c).After-starts in
+    let start = (goal.at.returns-clause-value c).After-halve in
     c.in_ok-next.ensures.value
     ∙ ap (is_few t.left) (next_level t.words.now t.left c.args.level.now _ c.requires.2 (long start) (split start))
 
 pub returns-clause-put : goal.returns-clause-put
 returns-clause-put c =
     let t = c.args.truths in
-    let start = (goal.at.returns-clause-put c).After-starts in
+    let start = (goal.at.returns-clause-put c).After-halve in
     level-put t.words.now t.left c.args.level.now _ c.requires.2 (long start) (split start) c.args.at c.in_ok-next.ensures.numbered
-    (c.put_field.ensures ∙ ap (λ (v : List ℕ). sets c.args.file.now c.args.at (field_bytes (record { tag = 3; value = v }))) (take_at c.enter.new.numbers _ _ (c.enter.auto.numbers ∙ length-take-le _ _ (omega (arith, ap length c.starts.ensures.are, c.starts.ensures.few)))))
+    (c.put_field.ensures ∙ ap (λ (v : List ℕ). sets c.args.file.now c.args.at (field_bytes (record { tag = 3; value = v }))) (take_at c.enter.new.numbers _ _ (c.enter.auto.numbers ∙ length-take-le _ _ (omega (arith, c.requires.1)))))

@@ -6,7 +6,7 @@ use Rattle.products.proofs.product.entry.Goals as goal
 pub returns : goal.returns
 returns c =
     entry-joins _ _ _ _ _ (sym c.crosses.ensures ∙ c.if-crosses.false) c.terms-lines.ensures.grown c.terms-lines.ensures.lines
-    (rw c.as_slice-2.ensures at c.join_lines.ensures)
+    (rw c.as_slice-2.ensures.are at c.join_lines.ensures)
 
 pub returns-then-crosses : goal.returns-then-crosses
 returns-then-crosses c = entry-sure _ _ _ _ _ (sym c.crosses.ensures ∙ c.if-crosses.true)
@@ -17,6 +17,6 @@ terms-lines-requires-clause-room_for c =
 
 pub join_lines-requires : goal.join_lines-requires
 join_lines-requires c =
-    rw c.as_slice-2.ensures
+    rw c.as_slice-2.ensures.are
     (entry-rest _ _ _ _ _ (sym c.crosses.ensures ∙ c.if-crosses.false) c.terms-lines.ensures.grown c.terms-lines.ensures.lines
     c.requires.room_for)

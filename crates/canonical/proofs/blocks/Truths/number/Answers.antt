@@ -3,12 +3,12 @@ use native.Mathlib.Omega.{arith}
 use Prim.Native.Nat.{◌<◌}
 use mathlib.Core.Path.{◌≡◌, refl, sym, ap, ◌∙◌}
 use lib.ListN.{length}
-use Rattle.std.proofs.Common.{is_some, None}
+use Rattle.std.proofs.Common.{None}
 use Rattle.functions.specs.Functions.{place}
 use Rattle.canonical.specs.Inner.Blocks.{level_at, mention_at, blocks_at}
 use Rattle.canonical.proofs.Searching.{found-at, found_none}
 use Rattle.canonical.proofs.Numbering.{number, numbered-none, numbered_more, none-entered, found_number, entered-old, entered-new, entered-nine, few-not}
-use Rattle.canonical.proofs.blocks.Truths.number.Goals.{After-find, in-Some, in-None+in_ok-number-in-None}
+use Rattle.canonical.proofs.blocks.Truths.number.Goals.{After-find, in-Some, in-None+else-number-eq8}
 use Rattle.canonical.proofs.blocks.Truths.number.Goals as goal
 
 -- A mention that is not found comes after the functions listed.
@@ -17,7 +17,7 @@ new : (c : After-find) → c.find.result ≡ None → let s = c.args.self in
 new c e =
     let s = c.args.self in
     found_none s.words.now s.left (mention_at s.words.now s.left c.args.mentions.now c.loop-k.k) c.loop-k.level
-    (rw c.starts.ensures.are at (sym c.find.ensures ∙ e))
+    (rw c.as_slice.ensures.are at (sym c.find.ensures ∙ e))
 
 pub loop-k-init : goal.loop-k-init
 loop-k-init c =
@@ -27,14 +27,13 @@ loop-k-init c =
       numbers-are = numbered-none (number s.words.now s.left c.args.mentions.now);
     }
 
-pub returns-in_err-number-in-None-clause-value : goal.returns-in_err-number-in-None-clause-value
-returns-in_err-number-in-None-clause-value c =
+pub returns-then-number-eq8-clause-value : goal.returns-then-number-eq8-clause-value
+returns-then-number-eq8-clause-value c =
     let s = c.args.self in
     let ms = c.args.mentions.now in
-    ap is_some c.from_residual.ensures
-    ∙ few-not s.left (level_at s.words.now s.left ms) c.requires.0
-    (entered-nine s.words.now s.left ms c.loop-k.invariant.entered _ (new (goal.at.returns-in_err-number-in-None-clause-value c).After-find c.in-None.is)
-    refl c.in_err-number-in-None.ensures c.loop-k-test.true)
+    few-not s.left (level_at s.words.now s.left ms) c.requires.0
+    (entered-nine s.words.now s.left ms c.loop-k.invariant.entered _ (new (goal.at.returns-then-number-eq8-clause-value c).After-find c.in-None.is)
+    refl (omega (arith, c.if-number-eq8.true, ap length c.as_slice-number.ensures.are)) c.loop-k-test.true)
 
 pub loop-k-preserved : goal.loop-k-preserved
 loop-k-preserved c =
@@ -50,16 +49,17 @@ loop-k-preserved c =
     elim c.match-find.branch [
       | in-Some w ↦
           let f = found-at ws s.left (mention_at ws s.left ms loop.k) loop.level w.in-Some.number
-          (rw c.starts.ensures.are at (sym c.find.ensures ∙ w.in-Some.is)) in
+          (rw c.as_slice.ensures.are at (sym c.find.ensures ∙ w.in-Some.is)) in
           record {
             entered = rw w.level-is (entered-old ws s.left ms e _ f.1 f.0);
             numbers-are = mores (w.number-is ∙ found_number ws s.left ms e _ f.1 c.requires.0 inside);
           }
-      | in-None+in_ok-number-in-None w ↦
+      | in-None+else-number-eq8 w ↦
           let at = new (goal.at.loop-k-preserved c).After-find w.in-None.is in
-          let pushed = w.in_ok-number-in-None.ensures in
+          let width = ap length w.as_slice-number.ensures.are in
+          let room : length loop.level < 8 = omega (arith, w.if-number-eq8.false, w.as_slice-number.ensures.few, width) in
           record {
-            entered = rw (w.level-is, pushed.2) (entered-new ws s.left ms e _ at refl pushed.1 (c.requires.1 loop.k 0 inside));
-            numbers-are = mores (w.number-is ∙ pushed.0 ∙ found_number ws s.left ms e _ at c.requires.0 inside);
+            entered = rw (w.level-is, w.push.ensures) (entered-new ws s.left ms e _ at refl room (c.requires.1 loop.k 0 inside));
+            numbers-are = mores (w.number-is ∙ width ∙ found_number ws s.left ms e _ at c.requires.0 inside);
           }
     ]

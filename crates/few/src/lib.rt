@@ -1,5 +1,7 @@
 // Lists of at most eight items.
-ghost use Rattle.std.specs.Prelude.{◌≡◌, ◌<◌, [], ◌∷◌, ◌++◌, length};
+#![tactic(auto)]
+
+ghost use Rattle.std.specs.Prelude.{◌≡◌, ◌<◌, [], ◌∷◌, ◌++◌, ◌≤◌, length};
 
 use std::marker::Model;
 
@@ -42,7 +44,8 @@ impl<T: Copy> Few<T> {
 
     // The items of the list.
     pub fn as_slice(&self) -> &[T]
-        ensures { result.now ≡ self.now }
+        ensures are { result.now ≡ self.now }
+        ensures few { length self.now ≤ 8 }
     {
         &self.items[..self.count]
     }
