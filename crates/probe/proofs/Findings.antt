@@ -60,13 +60,15 @@ module _ (n : ℕ) (gates hold : List ℕ) where
         sorted = rw l s.held;
       }
 
-  pub shown-at : {room : ℕ} (a : ℕ) {rails : List ℕ} → RunReady n gates hold room → rails ≡ code_rails n (input_of a) → (lines : List ℕ) →
-      stepped_over (holds_of hold) rails gates 2 (2 + 2 * n + length gates / 5) lines ≡ over (stuck_at (net_of n gates []) (hold_at hold 0) a) lines
+  pub shown-at : {room : ℕ} (a : ℕ) {rails : List ℕ} {end : ℕ} → RunReady n gates hold room → rails ≡ code_rails n (input_of a) →
+      end ≡ gate_line n + length gates / 5 → (lines : List ℕ) →
+      stepped_over (holds_of hold) rails gates 2 end lines ≡ over (stuck_at (net_of n gates []) (hold_at hold 0) a) lines
   unfolding stuck_at
-  shown-at a {rails} s e lines =
+  shown-at a {rails} s e last lines =
       let l : length rails ≡ 2 * n = ap length e ∙ code-length (input_of a) n in
       let size = length-drivers rails (gates_of gates) in
-      whole-lines (net_of n gates []) rails hold lines (2 + 2 * n + length gates / 5 - 2) (omega (arith, length-gates gates))
+      ap (λ (k : ℕ). stepped_over (holds_of hold) rails gates 2 k lines) last
+      ∙ whole-lines (net_of n gates []) rails hold lines (gate_line n + length gates / 5 - 2) (omega (arith, length-gates gates))
       ∙ rw (one-hold hold s.one, e)
 
 -- Line values go by the gates alone.

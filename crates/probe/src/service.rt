@@ -3,7 +3,6 @@ ghost use Rattle.std.specs.List.{flat_map};
 ghost use Rattle.std.specs.Prelude.{◌≡◌, ℕ, true, [], ◌++◌, ◌+◌, ◌*◌, ◌≤◌, length, take};
 ghost use Rattle.diagram.specs.Diagram.{input_of};
 ghost use Rattle.netlist.specs.Netlist.{hold_at, pairs_of, file_with, net_of};
-ghost use Rattle.wiring.specs.Questions.{are_pairs};
 ghost use Rattle.files.specs.Room.{over};
 ghost use Rattle.rules.specs.Board.{board_of};
 ghost use Rattle.rules.specs.Code.{code_rails};
@@ -15,7 +14,7 @@ ghost use Rattle.stuck.specs.Inner.Findings.{RunReady, WriteReady, AcceptedDiagr
 use diagram::Diagram;
 use drive::Holds;
 use files::{Refusal, Room};
-use search::Board;
+use search::{Board, Shown};
 use stuck::{Fanout, Probed, Way};
 
 // Each contact's two rails at a code input, the true one first.
@@ -38,8 +37,7 @@ fn show_at(board: Board, hold: &[u8], input: u32, lines: &mut [u8])
 {
     let rails = code_rails(input);
     let rails = rails[..board.contacts].as_flattened();
-    let end = 2 + 2 * board.contacts + board.gates.len() / 5;
-    evaluation::work_out(board.gates, rails, hold, 2, end, lines);
+    evaluation::work_out(board.gates, rails, hold, 2, board.line_count(), lines);
 }
 
 // Writes the netlist's file and, behind it, every line's value at a code input with a line or pin held, and returns where these
@@ -60,17 +58,16 @@ fn write_at(board: Board, hold: &[u8], input: u32, buffer: &mut [u8]) -> usize
 }
 
 // Names the lowest output whose pair shows no code among the line values at an input, and the way it shows.
-fn name_output(pairs: &[u8], lines: &[u8], input: u32) -> Probed
-    requires pairs_value { (are_pairs (length lines.now) pairs.now ≡ true) × (length pairs.now ≤ 32) }
-    requires lines_value { some_no_code (pairs_of pairs.now) lines.now ≡ true }
-    ensures { found result ≡ found_at (pairs_of pairs.now) input lines.now }
+fn name_output(shown: Shown, input: u32) -> Probed
+    requires { some_no_code (pairs_of shown.pairs.now) shown.lines.now ≡ true }
+    ensures { found result ≡ found_at (pairs_of shown.entry.pairs.now) input shown.entry.lines.now }
 {
-    let output = search::lowest(pairs, lines);
-    let pair = netlist::pair_at(pairs, output as usize);
+    let output = shown.lowest();
+    let (on, _) = shown.pair(output as usize);
     Probed {
         input,
         output,
-        way: Way::from(lines[usize::from(pair.on)]),
+        way: Way::from(on),
     }
 }
 
@@ -87,8 +84,12 @@ fn find(board: Board, hold: &[u8], buffer: &mut [u8]) -> Probed
         return Probed::hidden();
     };
     let start = write_at(board, hold, input, buffer);
-    let end = start + (2 + 2 * board.contacts + board.gates.len() / 5);
-    name_output(board.pairs, &buffer[start..end], input)
+    let end = start + board.line_count();
+    let shown = Shown {
+        pairs: board.pairs,
+        lines: &buffer[start..end],
+    };
+    name_output(shown, input)
 }
 
 // What probe returns and leaves of an accepted table's diagram; its board's gates are written to a buffer of their own.

@@ -14,3 +14,19 @@ pub struct Board<'a> {
     ghost wired: { are_gates (gate_line contacts) gates.now ≡ true },
     ghost paired: { are_pairs (gate_line contacts + length gates.now / 5) pairs.now ≡ true },
 }
+
+impl Board<'_> {
+    // The line of the first gate.
+    pub fn gate_line(self) -> usize
+        ensures { result ≡ gate_line self.entry.contacts }
+    {
+        2 + 2 * self.contacts
+    }
+
+    // The line after the last.
+    pub fn line_count(self) -> usize
+        ensures { result ≡ gate_line self.entry.contacts + length self.entry.gates.now / 5 }
+    {
+        self.gate_line() + self.gates.len() / 5
+    }
+}

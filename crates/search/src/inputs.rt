@@ -1,9 +1,9 @@
-// The smallest code input that betrays a held line or pin, and the lowest output that shows it.
+// The smallest code input that betrays a held line or pin.
 ghost use Rattle.std.specs.Prelude.{◌≡◌, true, ℕ, ◌+◌, ◌/◌, ◌≤◌, ◌<◌, length};
 ghost use Rattle.diagram.specs.Diagram.{bit};
 ghost use Rattle.netlist.specs.Netlist.{gate_line, pairs_of, net_of};
 ghost use Rattle.wiring.specs.Questions.{are_pairs};
-ghost use Rattle.faults.specs.Betrayal.{no_code, some_no_code, lowest_no_code};
+ghost use Rattle.faults.specs.Betrayal.{some_no_code};
 ghost use Rattle.batches.specs.Inner.Batches.{firsts, seconds, BuffersFit};
 ghost use Rattle.bits.specs.Inner.Bits.{bit_of, bits_of};
 ghost use Rattle.search.specs.Inner.Found.{found_in};
@@ -44,17 +44,16 @@ fn search_in(
     requires fit { BuffersFit board.contacts board.gates.now (length taken.old) (length batches.old) }
     ensures { result ≡ found_in (net_of board.entry.contacts board.entry.gates.now board.entry.pairs.now) hold }
 {
-    let first = 2 + 2 * board.contacts;
-    let count = board.gates.len() / 5;
-    passes::take_gates(board.gates, first, hold, taken);
+    passes::take_gates(board, hold, taken);
     let held = HeldBoard {
         board,
         hold,
-        taken: &taken[..count],
+        taken: &taken[..board.gates.len() / 5],
     };
+    let lines = board.line_count();
     for base in (0..1usize << board.contacts).step_by(128) {
         held.work_batches(base, batches);
-        let masks = agreeing(board.pairs, &batches[..first + count]);
+        let masks = agreeing(board.pairs, &batches[..lines]);
         if masks.first != 0 {
             return Some(base as u32 + bits::lowest_bit(masks.first));
         }
@@ -96,23 +95,4 @@ pub fn search(board: Board, hold: Hold) -> Option<u32>
         return search_within::<2278, 2304>(board, hold);
     }
     search_within::<10560, 10586>(board, hold)
-}
-
-// Whether output j's pair shows no code.
-fn is_no_code(pairs: &[u8], lines: &[u8], j: usize) -> bool
-    requires { (are_pairs (length lines.now) pairs.now ≡ true) × (j < length pairs.now / 4) }
-    ensures { result ≡ no_code (pairs_of pairs.now) lines.now j }
-{
-    let pair = netlist::pair_at(pairs, j);
-    lines[usize::from(pair.on)] == lines[usize::from(pair.off)]
-}
-
-// The lowest output whose pair shows no code, which some output's does.
-pub fn lowest(pairs: &[u8], lines: &[u8]) -> u32
-    requires pairs { (are_pairs (length lines.now) pairs.now ≡ true) × (length pairs.now / 4 ≤ 8) }
-    requires lines { some_no_code (pairs_of pairs.now) lines.now ≡ true }
-    ensures { result ≡ lowest_no_code (pairs_of pairs.now) lines.now }
-{
-    let count = pairs.len() / 4;
-    (0..count).find(|j| is_no_code(pairs, lines, *j)).unwrap() as u32
 }

@@ -4,6 +4,8 @@
 mod board;
 mod inputs;
 mod passes;
+mod shown;
 
 pub use board::Board;
-pub use inputs::{lowest, search};
+pub use inputs::search;
+pub use shown::Shown;

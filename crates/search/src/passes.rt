@@ -44,15 +44,16 @@ fn rail_batches(contact: usize, base: usize) -> (TwoBatches, TwoBatches)
 
 // Writes each gate as the hold leaves it. A held line's gate reads the line of its constant twice, and so makes that constant; the gate of
 // a held pin reads it there.
-pub fn take_gates(gates: &[u8], first: usize, hold: Hold, taken: &mut [Gate])
-    requires { (2 ≤ first) × (first ≤ 26) × (length gates.now / 5 ≤ length taken.old) }
-    ensures { GatesTaken first hold (length gates.now / 5) gates.now taken.new }
+pub fn take_gates(board: Board, hold: Hold, taken: &mut [Gate])
+    requires { length board.gates.now / 5 ≤ length taken.old }
+    ensures { GatesTaken (gate_line board.entry.contacts) hold (length board.entry.gates.now / 5) board.entry.gates.now taken.new }
 {
     let left = batches::held_line(hold, Site::FirstPin);
     let right = batches::held_line(hold, Site::SecondPin);
     let level = u16::from(hold.value % 2);
+    let first = board.gate_line();
     // Written by index: after a zip with `taken.iter_mut()` nothing is known of `taken` (tried).
-    for (g, gate) in gates.as_chunks::<5>().0.iter().enumerate() {
+    for (g, gate) in board.gates.as_chunks::<5>().0.iter().enumerate() {
         let gate = Gate::from(gate);
         taken[g] = Gate {
             kind: gate.kind,
@@ -100,7 +101,7 @@ impl HeldBoard<'_> {
         ensures second { BatchesAre (gate_line self.entry.board.contacts + length self.entry.board.gates.now / 5) (seconds batches.new)
             (λ k. gates_at self.entry.board.gates.now self.entry.hold (bits_of k (take (gate_line self.entry.board.contacts) (seconds batches.old)))) }
     {
-        let first = 2 + 2 * self.board.contacts;
+        let first = self.board.gate_line();
         for (g, gate) in self.taken.iter().enumerate() {
             batches[first + g] = batches::make_batches(batches, *gate);
         }

@@ -14,7 +14,7 @@ use Rattle.faults.specs.Betrayal.{stuck_at}
 use Rattle.search.specs.Inner.Found.{found_in}
 use Rattle.stuck.specs.Service.{found_at}
 use Rattle.probe.proofs.Findings.{read_behind, length-lines, betrayed-at, answer-seen, answer-hidden}
-use Rattle.probe.proofs.service.find.Goals.{After-search}
+use Rattle.probe.proofs.service.find.Goals.{After-search, After-line_count}
 use Rattle.probe.proofs.service.find.Goals as goal
 
 -- The search's answer.
@@ -28,10 +28,10 @@ module _ (n : ℕ) (gates pairs : List ℕ) (h : Hold) (input : ℕ) where
   abbrev values : List ℕ
   values = stuck_at (net_of n gates pairs) h input
 
-  part : (at : ℕ) (before : List ℕ) {after : List ℕ} → at ≡ 10 + length gates + length pairs →
-      after ≡ over (file_with n gates pairs [] ++ values) before → take (at + (gate_line n + length gates / 5) - at) (drop at after) ≡ values
-  part at before e w =
-      let count = gate_line n + length gates / 5 in
+  part : (at : ℕ) (before : List ℕ) {after : List ℕ} {count : ℕ} → at ≡ 10 + length gates + length pairs →
+      after ≡ over (file_with n gates pairs [] ++ values) before → count ≡ gate_line n + length gates / 5 →
+      take (at + count - at) (drop at after) ≡ values
+  part at before {count = count} e w many =
       let lines = length-lines n gates pairs h input in
       ap (λ (l : List ℕ). take (at + count - at) (drop at l)) w
       ∙ read_behind (file_with n gates pairs []) values before at (at + count - at) (length-file n gates pairs [] ∙ add-zero _ ∙ sym e) (omega arith)
@@ -42,23 +42,35 @@ returns-in_default c =
     c.hidden.ensures
     c.write_at.ensures.buffer_after
 
+-- What is lent are the line values that were written behind the file.
+shown : (c : After-line_count) → take (c.write_at-start.result + c.line_count.result - c.write_at-start.result)
+    (drop c.write_at-start.result c.write_at-start.new.buffer)
+    ≡ values c.args.board.contacts c.args.board.gates.now c.args.board.pairs.now (hold_at c.args.hold.now 0) c.in-Some.input
+shown c =
+    let b = c.args.board in
+    let w = c.write_at-start in
+    part b.contacts b.gates.now b.pairs.now (hold_at c.args.hold.now 0) c.in-Some.input w.result c.args.buffer.now w.ensures.value
+    w.ensures.buffer_after c.line_count.ensures
+
+pub invariant_of-shown : goal.invariant_of-shown
+invariant_of-shown c =
+    let b = c.args.board in
+    let count = length-lines b.contacts b.gates.now b.pairs.now (hold_at c.args.hold.now 0) c.in-Some.input in
+    record {
+      few = omega (arith, c.requires.bytes.1);
+      paired = rw (shown (goal.at.invariant_of-shown c).After-line_count, count) b.paired;
+    }
+
 pub name_output-requires : goal.name_output-requires
 name_output-requires c =
-    let a = c.args in
-    let h = hold_at a.hold.now 0 in
-    let w = c.write_at-start in
-    let shown = part a.board.contacts a.board.gates.now a.board.pairs.now h c.in-Some.input w.result a.buffer.now w.ensures.value w.ensures.buffer_after in
-    let count = length-lines a.board.contacts a.board.gates.now a.board.pairs.now h c.in-Some.input in record {
-      pairs_value = (rw (shown, count) a.board.paired, c.requires.bytes.1);
-      lines_value = rw shown (betrayed-at (net_of a.board.contacts a.board.gates.now a.board.pairs.now) h c.in-Some.input
-          (sym c.in-Some.is ∙ searched (goal.at.name_output-requires c).After-search));
-    }
+    let b = c.args.board in
+    let at = goal.at.name_output-requires c in
+    rw (shown at.After-line_count)
+    (betrayed-at (net_of b.contacts b.gates.now b.pairs.now) (hold_at c.args.hold.now 0) c.in-Some.input (sym c.in-Some.is ∙ searched at.After-search))
 
 pub returns : goal.returns
 returns c =
-    let a = c.args in
-    let w = c.write_at-start in
-    let shown = part a.board.contacts a.board.gates.now a.board.pairs.now (hold_at a.hold.now 0) c.in-Some.input w.result a.buffer.now w.ensures.value w.ensures.buffer_after in
-    answer-seen _ _ _ a.buffer.now c.in-Some.input (sym c.in-Some.is ∙ searched (goal.at.returns c).After-search)
-    (c.name_output.ensures ∙ ap (found_at (pairs_of a.board.pairs.now) c.in-Some.input) shown)
+    let at = goal.at.returns c in
+    answer-seen _ _ _ c.args.buffer.now c.in-Some.input (sym c.in-Some.is ∙ searched at.After-search)
+    (c.name_output.ensures ∙ ap (found_at (pairs_of c.args.board.pairs.now) c.in-Some.input) (shown at.After-line_count))
     c.write_at-start.ensures.buffer_after

@@ -30,4 +30,4 @@ returns c =
     let are = rails-are (goal.at.returns c).After-as_flattened-rails in
     rw (← lines_same b.contacts b.gates.now b.pairs.now (hold_at c.args.hold.now 0) c.args.input)
     (c.work_out.ensures
-    ∙ shown-at b.contacts b.gates.now c.args.hold.now c.args.input c.requires are c.args.lines.now)
+    ∙ shown-at b.contacts b.gates.now c.args.hold.now c.args.input c.requires are c.line_count.ensures c.args.lines.now)

@@ -1,17 +1,17 @@
 -- `inputs::search_in` meets its contract. The loop's invariant: no input below base betrays.
 use borrow.Author.Count.{below_none}
-use Prim.Native.Nat.{ℕ, ◌+◌, ◌/◌, ◌^◌, ◌≤◌, ◌<◌}
+use Prim.Native.Nat.{ℕ, ◌+◌, ◌^◌, ◌≤◌, ◌<◌}
 use native.Mathlib.Omega.{arith}
 use mathlib.Core.Path.{◌≡◌}
 use mathlib.Core.Bool.{false}
 use mathlib.Core.List.{List, map}
-use lib.ListN.{length, take}
+use lib.ListN.{take}
 use lib.Pow.{pow_mono}
 use Rattle.std.proofs.lemmas.List.{take-map}
 use Rattle.diagram.specs.Diagram.{bit}
 use Rattle.faults.specs.Betrayal.{betrays}
 use Rattle.bits.specs.Inner.Bits.{bit_of, bits_of}
-use Rattle.netlist.specs.Netlist.{gate_line, net_of}
+use Rattle.netlist.specs.Netlist.{net_of}
 use Rattle.batches.specs.declared.batch.TwoBatches.{TwoBatches}
 use Rattle.search.proofs.FoundLemmas.{nowhere, clear-all, found}
 use Rattle.search.proofs.Masks.{mask-tells}
@@ -40,7 +40,7 @@ work_batches-requires-clause-base c =
 -- The masks' bits tell which inputs from base on betray, and which of the 64 after those.
 module _ (c : After-agreeing-masks) where
   abbrev lines : ℕ
-  lines = gate_line c.args.board.contacts + length c.args.board.gates.now / 5
+  lines = c.line_count-lines.result
 
   abbrev seen : ℕ → ℕ
   seen a = bit (betrays (net_of c.args.board.contacts c.args.board.gates.now c.args.board.pairs.now) c.args.hold a)
@@ -48,12 +48,12 @@ module _ (c : After-agreeing-masks) where
   low-tells : (k : ℕ) → k < 64 → bit_of k c.agreeing-masks.result.first ≡ seen (c.loop-base.base + k)
   low-tells =
       mask-tells _ _ _ c.args.hold c.loop-base.base _ _ c.agreeing-masks.ensures.first
-      (lent-are (λ w. w.first) lines c.work_batches.new.batches _ c.work_batches.ensures.first)
+      (lent-are (λ w. w.first) lines c.work_batches.new.batches _ (rw c.line_count-lines.ensures c.work_batches.ensures.first))
 
   high-tells : (k : ℕ) → k < 64 → bit_of k c.agreeing-masks.result.second ≡ seen (c.loop-base.base + 64 + k)
   high-tells =
       mask-tells _ _ _ c.args.hold (c.loop-base.base + 64) _ _ c.agreeing-masks.ensures.second
-      (lent-are (λ w. w.second) lines c.work_batches.new.batches _ c.work_batches.ensures.second)
+      (lent-are (λ w. w.second) lines c.work_batches.new.batches _ (rw c.line_count-lines.ensures c.work_batches.ensures.second))
 
   -- None of the 128 inputs of a pass whose masks are clear betrays.
   passed : c.agreeing-masks.result.first ≡ 0 → c.agreeing-masks.result.second ≡ 0 → (a : ℕ) → a < c.loop-base.base + 128 →

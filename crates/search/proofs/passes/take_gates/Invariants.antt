@@ -3,4 +3,4 @@ use Rattle.batches.specs.Inner.Batches.{GatesTaken}
 use Rattle.search.proofs.passes.take_gates.Given as goal
 
 abbrev pub invariant-loop-g : goal.invariant-loop-g
-invariant-loop-g l = GatesTaken l.first l.fn.hold l.g l.gates l.taken
+invariant-loop-g l = GatesTaken l.first l.fn.hold l.g l.board.gates.now l.taken

@@ -49,11 +49,11 @@ loop-g-preserved c =
     let here = (goal.at.loop-g-preserved c).In-loop-g in
     let l = below here in record {
       first =
-          half-made (λ w. w.first) refl _ _ _ c.args.batches.now c.loop-g.batches _ c.loop-g.g c.make_batches.result (first-ready here) l
-          (ap (λ (w : TwoBatches). w.first) c.make_batches.ensures) c.loop-g.invariant.first;
+          rw c.gate_line-first.ensures (half-made (λ w. w.first) refl _ _ _ c.args.batches.now c.loop-g.batches _ c.loop-g.g c.make_batches.result (first-ready here) l
+          (ap (λ (w : TwoBatches). w.first) c.make_batches.ensures) c.loop-g.invariant.first);
       second =
-          half-made (λ w. w.second) refl _ _ _ c.args.batches.now c.loop-g.batches _ c.loop-g.g c.make_batches.result (second-ready here) l
-          (ap (λ (w : TwoBatches). w.second) c.make_batches.ensures) c.loop-g.invariant.second;
+          rw c.gate_line-first.ensures (half-made (λ w. w.second) refl _ _ _ c.args.batches.now c.loop-g.batches _ c.loop-g.g c.make_batches.result (second-ready here) l
+          (ap (λ (w : TwoBatches). w.second) c.make_batches.ensures) c.loop-g.invariant.second);
     }
 
 pub returns-clause-first : goal.returns-clause-first

@@ -1,4 +1,4 @@
--- `inputs::lowest` meets its contract: the first output that `find` finds is the lowest, and some output is found.
+-- `shown::Shown::lowest` meets its contract: the first output that `find` finds is the lowest, and some output is found.
 use borrow.Author.Tests.{tests}
 use Prim.Native.Nat.{ℕ, ◌/◌, ◌≤◌, ◌<◌}
 use native.Mathlib.Omega.{arith}
@@ -13,8 +13,8 @@ use Rattle.netlist.specs.Netlist.{pairs_of}
 use Rattle.netlist.proofs.Lists.{length_pairs}
 use Rattle.faults.specs.Betrayal.{no_code, some_no_code, lowest_no_code}
 use Rattle.fields.proofs.Least.{least-is, least_first}
-use Rattle.search.proofs.inputs.lowest.Goals.{After-find}
-use Rattle.search.proofs.inputs.lowest.Goals as goal
+use Rattle.search.proofs.shown.Shown.lowest.Goals.{After-find}
+use Rattle.search.proofs.shown.Shown.lowest.Goals as goal
 
 -- Whether an output agrees.
 abbrev passes : List ℕ → List ℕ → ℕ → Bool
@@ -34,10 +34,10 @@ found-is pairs lines (Some i) some (_, below, yes!, none) =
     (least-is (passes pairs lines)
     (record { below = omega (arith, length_pairs pairs); passes = yes!; none = λ k l. none k (omega arith) l }))
 
-found : (c : After-find) → c.find.result ≡ Some (lowest_no_code (pairs_of c.args.pairs.now) c.args.lines.now)
+found : (c : After-find) → c.find.result ≡ Some (lowest_no_code (pairs_of c.args.self.pairs.now) c.args.self.lines.now)
 found c =
-    let tell = passes c.args.pairs.now c.args.lines.now in
-    found-is c.args.pairs.now c.args.lines.now c.find.result c.requires.lines
+    let tell = passes c.args.self.pairs.now c.args.self.lines.now in
+    found-is c.args.self.pairs.now c.args.self.lines.now c.find.result c.requires
     (first_from_Range _ _ _ c.find.result (λ i. tell i ≡ true) (λ i. tell i ≡ false) c.find.ensures.ran (λ x q k. search (rules, tests))
     (λ x q k. search (rules, tests)))
 
@@ -46,11 +46,11 @@ unwrap-requires c = rw (found (goal.at.unwrap-requires c).After-find) refl
 
 pub overflow_cast-result : goal.overflow_cast-result
 overflow_cast-result c =
-    let pairs = c.args.pairs.now in
-    let first = least_first (passes pairs c.args.lines.now) (length (pairs_of pairs)) c.requires.lines in
-    let e : c.unwrap.result ≡ lowest_no_code (pairs_of pairs) c.args.lines.now =
+    let pairs = c.args.self.pairs.now in
+    let first = least_first (passes pairs c.args.self.lines.now) (length (pairs_of pairs)) c.requires in
+    let e : c.unwrap.result ≡ lowest_no_code (pairs_of pairs) c.args.self.lines.now =
     cc (found (goal.at.overflow_cast-result c).After-find, c.unwrap.ensures) in
-    rw e (omega (arith, first.below, length_pairs pairs))
+    rw e (omega (arith, first.below, length_pairs pairs, c.args.self.few))
 
 pub returns : goal.returns
 returns c = cc (found (goal.at.returns c).After-find, c.unwrap.ensures)
