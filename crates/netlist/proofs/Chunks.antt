@@ -23,29 +23,30 @@ chunk-at n (suc k) v (suc g) d j i h l e =
     chunk-at n k (drop n v) g d j (n * g + j) (omega arith) l refl ∙ get_or-drop n v (n * g + j) 0
     ∙ ap (λ (p : ℕ). get_or v p 0) (omega arith)
 
--- The gate of chunk g is gate g, and so are an output and a hold.
-module _ (v : List ℕ) (g : ℕ) (d : List ℕ) where
-  pub gate-chunk : g < length v / 5 → gate_at (get_or (first_chunks 5 (length v / 5) v) g d) 0 ≡ gate_at v g
-  gate-chunk h =
-      let at : (j i : ℕ) → j < 5 → i ≡ 5 * g + j → get_or (get_or (first_chunks 5 (length v / 5) v) g d) j 0 ≡ get_or v i 0 =
-      λ j i l e. chunk-at 5 (length v / 5) v g d j i h l e in
+-- Chunk g names gate g, output g or hold g, where the chunks are the whole ones of these bytes.
+module _ (v : List ℕ) {g : ℕ} (d : List ℕ) {chunks : List (List ℕ)} where
+  byte : (n : ℕ) → chunks ≡ first_chunks n (length v / n) v → g < length v / n → (j i : ℕ) → j < n → i ≡ n * g + j →
+      get_or (get_or chunks g d) j 0 ≡ get_or v i 0
+  byte n front h j i l e = ap (λ (cs : List (List ℕ)). get_or (get_or cs g d) j 0) front ∙ chunk-at n (length v / n) v g d j i h l e
+
+  pub gate-chunk : chunks ≡ first_chunks 5 (length v / 5) v → g < length v / 5 → gate_at (get_or chunks g d) 0 ≡ gate_at v g
+  gate-chunk front h =
+      let at = byte 5 front h in
       let kind = at 0 (5 * g) (omega arith) (omega arith) in
       let left = ap₂ number_of (at 1 (5 * g + 1) (omega arith) (omega arith)) (at 2 (5 * g + 1 + 1) (omega arith) (omega arith)) in
       let right = ap₂ number_of (at 3 (5 * g + 3) (omega arith) (omega arith)) (at 4 (5 * g + 3 + 1) (omega arith) (omega arith)) in
       λ i. record { kind = kind i; left = left i; right = right i }
 
-  pub pair-chunk : g < length v / 4 → pair_at (get_or (first_chunks 4 (length v / 4) v) g d) 0 ≡ pair_at v g
-  pair-chunk h =
-      let at : (j i : ℕ) → j < 4 → i ≡ 4 * g + j → get_or (get_or (first_chunks 4 (length v / 4) v) g d) j 0 ≡ get_or v i 0 =
-      λ j i l e. chunk-at 4 (length v / 4) v g d j i h l e in
+  pub pair-chunk : chunks ≡ first_chunks 4 (length v / 4) v → g < length v / 4 → pair_at (get_or chunks g d) 0 ≡ pair_at v g
+  pair-chunk front h =
+      let at = byte 4 front h in
       let on = ap₂ number_of (at 0 (4 * g) (omega arith) (omega arith)) (at 1 (4 * g + 1) (omega arith) (omega arith)) in
       let off = ap₂ number_of (at 2 (4 * g + 2) (omega arith) (omega arith)) (at 3 (4 * g + 2 + 1) (omega arith) (omega arith)) in
       λ i. record { on = on i; off = off i }
 
-  pub hold-chunk : g < length v / 3 → hold_at (get_or (first_chunks 3 (length v / 3) v) g d) 0 ≡ hold_at v g
-  hold-chunk h =
-      let at : (j i : ℕ) → j < 3 → i ≡ 3 * g + j → get_or (get_or (first_chunks 3 (length v / 3) v) g d) j 0 ≡ get_or v i 0 =
-      λ j i l e. chunk-at 3 (length v / 3) v g d j i h l e in
+  pub hold-chunk : chunks ≡ first_chunks 3 (length v / 3) v → g < length v / 3 → hold_at (get_or chunks g d) 0 ≡ hold_at v g
+  hold-chunk front h =
+      let at = byte 3 front h in
       let line = ap₂ number_of (at 0 (3 * g) (omega arith) (omega arith)) (at 1 (3 * g + 1) (omega arith) (omega arith)) in
       let value = at 2 (3 * g + 2) (omega arith) (omega arith) in
       λ i. record { line = line i; value = value i }

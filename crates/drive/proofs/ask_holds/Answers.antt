@@ -1,10 +1,9 @@
 -- `ask_holds` meets its contract. The loop's invariant: each hold passed is in its place, and the last of them has this rank.
 use borrow.Author.Tests.{eqb-true, eq-eqb}
 use native.Mathlib.Omega.{arith}
-use Prim.Native.Nat.{ℕ, ◌/◌, ◌%◌, ◌<◌}
-use mathlib.Core.Path.{◌≡◌, refl, sym, ap, ◌∙◌}
-use mathlib.Core.List.{List, []}
-use lib.ListN.{length, get_or}
+use Prim.Native.Nat.{◌/◌, ◌%◌, ◌<◌}
+use mathlib.Core.Path.{◌≡◌, refl, sym, ◌∙◌}
+use lib.ListN.{length}
 use Rattle.std.proofs.Common.{rules}
 use Rattle.fields.proofs.Bounded.{all_none}
 use Rattle.netlist.specs.Netlist.{hold_at}
@@ -25,10 +24,7 @@ within : (c : After-from-hold) → c.loop-bytes.bytes-index < length c.args.hold
 within c = omega (arith, c.as_chunks.ensures.front_len)
 
 hold : (c : After-from-hold) → c.from-hold.result ≡ hold_at c.args.holds.now c.loop-bytes.bytes-index
-hold c =
-    let i = c.loop-bytes.bytes-index in
-    c.from-hold.ensures ∙ ap (λ (holds : List (List ℕ)). hold_at (get_or holds i []) 0) c.as_chunks.ensures.front
-    ∙ hold-chunk c.args.holds.now i [] (within c)
+hold c = c.from-hold.ensures ∙ hold-chunk _ _ c.as_chunks.ensures.front (within c)
 
 pub returns-then-not-is_hold : goal.returns-then-not-is_hold
 returns-then-not-is_hold c =

@@ -1,9 +1,9 @@
 -- `show_pairs` meets its contract. The loop's invariant: the pairs of the outputs passed are written.
 use native.Mathlib.Omega.{arith}
-use Prim.Native.Nat.{ℕ, ◌/◌, ◌<◌}
-use mathlib.Core.Path.{◌≡◌, refl, sym, ap, ◌∙◌}
-use mathlib.Core.List.{List, [], flat_map, map}
-use lib.ListN.{length, get_or, length-set, get_or-map}
+use Prim.Native.Nat.{◌/◌, ◌<◌}
+use mathlib.Core.Path.{◌≡◌, refl, sym, ◌∙◌}
+use mathlib.Core.List.{flat_map, map}
+use lib.ListN.{length, length-set, get_or-map}
 use Rattle.fields.specs.Bounded.{listed}
 use Rattle.simulation.specs.Run.{shown_of}
 use Rattle.simulation.specs.Service.{read_back}
@@ -24,10 +24,7 @@ module _ (c : After-from-pair) where
   here = omega (arith, c.as_chunks.ensures.front_len)
 
   pair : c.from-pair.result ≡ pair_at c.args.outputs.now c.loop-j.j
-  pair =
-      let j = c.loop-j.j in
-      c.from-pair.ensures ∙ ap (λ (outputs : List (List ℕ)). pair_at (get_or outputs j []) 0) c.as_chunks.ensures.front
-      ∙ pair-chunk c.args.outputs.now j [] here
+  pair = c.from-pair.ensures ∙ pair-chunk _ _ c.as_chunks.ensures.front here
 
   -- The output read has its lines in the netlist.
   within : PairIn (length c.args.lines.now) c.from-pair.result

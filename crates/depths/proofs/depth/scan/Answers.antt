@@ -1,8 +1,7 @@
 -- `depth::scan` meets its contract. The loop's invariant: the depths of the gates passed are known, and the largest.
 use native.Mathlib.Omega.{arith}
 use Prim.Native.Nat.{ℕ, ◌+◌, ◌/◌, ◌<◌, max}
-use mathlib.Core.Path.{◌≡◌, ap, ◌∙◌}
-use mathlib.Core.List.{List, []}
+use mathlib.Core.Path.{◌≡◌, ◌∙◌}
 use lib.ListN.{length, get_or, take}
 use Rattle.netlist.specs.Netlist.{gate_at}
 use Rattle.netlist.proofs.Chunks.{gate-chunk}
@@ -15,10 +14,7 @@ module _ (c : After-from-gate) where
   within = omega (arith, c.as_chunks.ensures.front_len)
 
   here : c.from-gate.result ≡ gate_at c.args.gates.now c.loop-g.g
-  here =
-      let g = c.loop-g.g in
-      c.from-gate.ensures ∙ ap (λ (gates : List (List ℕ)). gate_at (get_or gates g []) 0) c.as_chunks.ensures.front
-      ∙ gate-chunk c.args.gates.now g [] within
+  here = c.from-gate.ensures ∙ gate-chunk _ _ c.as_chunks.ensures.front within
 
   below : (c.from-gate.result.left < c.args.first + c.loop-g.g) × (c.from-gate.result.right < c.args.first + c.loop-g.g)
   below = rw here (c.requires.sources_below.at c.loop-g.g within)

@@ -2,8 +2,7 @@
 use Prim.Native.Nat.{ℕ, ◌/◌, ◌<◌}
 use native.Mathlib.Omega.{arith}
 use mathlib.Core.Path.{◌≡◌, refl, ap, ◌∙◌}
-use mathlib.Core.List.{List, []}
-use lib.ListN.{length, get_or}
+use lib.ListN.{length}
 use Rattle.netlist.proofs.Chunks.{pair-chunk}
 use Rattle.fields.specs.Bounded.{any}
 use Rattle.netlist.specs.declared.Pair.{Pair}
@@ -32,9 +31,7 @@ module _ (c : After-from-pair) where
   below = omega (arith, c.as_chunks.ensures.front_len)
 
   pair-is : c.from-pair.result ≡ pair_at c.args.pairs.now j
-  pair-is =
-      c.from-pair.ensures ∙ ap (λ (cs : List (List ℕ)). pair_at (get_or cs j []) 0) c.as_chunks.ensures.front
-      ∙ pair-chunk c.args.pairs.now j [] below
+  pair-is = c.from-pair.ensures ∙ pair-chunk _ _ c.as_chunks.ensures.front below
 
   low : PairIn (length c.args.batches.now) c.from-pair.result
   low = rw pair-is (pairs-at (length c.args.batches.now) c.args.pairs.now c.requires j below)

@@ -1,9 +1,8 @@
 -- `passes::take_gates` meets its contract. The loop's invariant: the gates before gate g are written.
-use Prim.Native.Nat.{ℕ, ◌+◌, ◌/◌, ◌≤◌, ◌<◌}
+use Prim.Native.Nat.{◌+◌, ◌/◌, ◌≤◌, ◌<◌}
 use native.Mathlib.Omega.{arith}
 use mathlib.Core.Path.{◌≡◌, ap, ◌∙◌}
-use mathlib.Core.List.{List, []}
-use lib.ListN.{length, get_or}
+use lib.ListN.{length}
 use Rattle.netlist.specs.declared.Gate.{Gate}
 use Rattle.netlist.specs.Netlist.{gate_at}
 use Rattle.netlist.proofs.Chunks.{gate-chunk}
@@ -20,10 +19,7 @@ module _ (c : After-from-gate) where
   within = omega (arith, c.as_chunks.ensures.front_len)
 
   here : c.from-gate.result ≡ gate_at c.args.board.gates.now c.loop-g.g
-  here =
-      let g = c.loop-g.g in
-      c.from-gate.ensures ∙ ap (λ (gates : List (List ℕ)). gate_at (get_or gates g []) 0) c.as_chunks.ensures.front
-      ∙ gate-chunk c.args.board.gates.now g [] within
+  here = c.from-gate.ensures ∙ gate-chunk _ _ c.as_chunks.ensures.front within
 
 pub bounds-taken-g : goal.bounds-taken-g
 bounds-taken-g c = omega (arith, within (goal.at.bounds-taken-g c).After-from-gate, c.requires)

@@ -1,10 +1,9 @@
 -- `page::put_gates` meets its contract.
 use native.Mathlib.Nat.{zero-add}
 use native.Mathlib.Omega.{arith}
-use Prim.Native.Nat.{ℕ, ◌/◌, ◌<◌}
+use Prim.Native.Nat.{◌/◌, ◌<◌}
 use mathlib.Core.Path.{◌≡◌, refl, sym, ap, ◌∙◌}
-use mathlib.Core.List.{List, []}
-use lib.ListN.{length, get_or}
+use lib.ListN.{length}
 use Rattle.netlist.specs.Netlist.{gate_at, gates_of}
 use Rattle.netlist.proofs.Chunks.{gate-chunk}
 use Rattle.sheet.specs.Sheet.{gate_row}
@@ -20,10 +19,7 @@ module _ (c : After-from-gate) where
   within = omega (arith, c.as_chunks.ensures.front_len)
 
   here : c.from-gate.result ≡ gate_at c.args.gates.now c.loop-g.g
-  here =
-      let g = c.loop-g.g in
-      c.from-gate.ensures ∙ ap (λ (gates : List (List ℕ)). gate_at (get_or gates g []) 0) c.as_chunks.ensures.front
-      ∙ gate-chunk c.args.gates.now g [] within
+  here = c.from-gate.ensures ∙ gate-chunk _ _ c.as_chunks.ensures.front within
 
 pub put_next-requires : goal.put_next-requires
 put_next-requires c =

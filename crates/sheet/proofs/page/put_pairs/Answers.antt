@@ -3,8 +3,7 @@ use native.Mathlib.Nat.{zero-add}
 use native.Mathlib.Omega.{arith}
 use Prim.Native.Nat.{ℕ, ◌/◌, ◌<◌}
 use mathlib.Core.Path.{◌≡◌, refl, sym, ap, ◌∙◌}
-use mathlib.Core.List.{List, []}
-use lib.ListN.{length, get_or}
+use lib.ListN.{length}
 use Rattle.netlist.specs.Netlist.{pair_at, pairs_of}
 use Rattle.netlist.proofs.Chunks.{pair-chunk}
 use Rattle.sheet.specs.Sheet.{pair_row}
@@ -20,10 +19,7 @@ module _ (c : After-from-pair) where
   within = omega (arith, c.as_chunks.ensures.front_len)
 
   here : c.from-pair.result ≡ pair_at c.args.pairs.now c.loop-j.j
-  here =
-      let j = c.loop-j.j in
-      c.from-pair.ensures ∙ ap (λ (pairs : List (List ℕ)). pair_at (get_or pairs j []) 0) c.as_chunks.ensures.front
-      ∙ pair-chunk c.args.pairs.now j [] within
+  here = c.from-pair.ensures ∙ pair-chunk _ _ c.as_chunks.ensures.front within
 
 pub put_next-requires : goal.put_next-requires
 put_next-requires c =

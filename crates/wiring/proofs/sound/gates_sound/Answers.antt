@@ -1,9 +1,8 @@
 -- `sound::gates_sound` meets its contract. The loop's invariant: each gate passed is sound.
 use native.Mathlib.Omega.{arith}
-use Prim.Native.Nat.{ℕ, ◌+◌, ◌/◌, ◌<◌}
+use Prim.Native.Nat.{◌+◌, ◌/◌}
 use mathlib.Core.Path.{◌≡◌, sym, ap, ◌∙◌}
-use mathlib.Core.List.{List, []}
-use lib.ListN.{length, get_or}
+use lib.ListN.{length}
 use Rattle.fields.proofs.Bounded.{all_none, all_more, all-not}
 use Rattle.netlist.specs.Netlist.{gate_at}
 use Rattle.netlist.proofs.Chunks.{gate-chunk}
@@ -17,11 +16,8 @@ loop-g-init c = all_none _
 -- What the gate's test says.
 here : (c : After-gate_sound) → is_gate (c.args.first + c.loop-g.g) (gate_at c.args.gates.now c.loop-g.g) ≡ c.gate_sound.result
 here c =
-    let g = c.loop-g.g in
-    let line = c.args.first + g in
-    let within : g < length c.args.gates.now / 5 = omega (arith, c.as_chunks.ensures.front_len) in
-    sym (c.gate_sound.ensures ∙ ap (λ (gates : List (List ℕ)). is_gate line (gate_at (get_or gates g []) 0)) c.as_chunks.ensures.front
-    ∙ ap (is_gate line) (gate-chunk c.args.gates.now g [] within))
+    sym (c.gate_sound.ensures
+    ∙ ap (is_gate (c.args.first + c.loop-g.g)) (gate-chunk _ _ c.as_chunks.ensures.front (omega (arith, c.as_chunks.ensures.front_len))))
 
 pub returns-then-not-gate_sound : goal.returns-then-not-gate_sound
 returns-then-not-gate_sound c =

@@ -21,8 +21,7 @@ returns c =
     let chunks = c.as_chunks.result.0.now in
     let test = λ (j : ℕ). is_pair lines (pair_at pairs j) in
     let its : (i : ℕ) → i < length chunks → is_pair lines (pair_at (get_or chunks i []) 0) ≡ test i = λ i l.
-    ap (λ (pairs : List (List ℕ)). is_pair lines (pair_at (get_or pairs i []) 0)) c.as_chunks.ensures.front
-    ∙ ap (is_pair lines) (pair-chunk pairs i [] (omega (arith, c.as_chunks.ensures.front_len))) in
+    ap (is_pair lines) (pair-chunk _ _ c.as_chunks.ensures.front (omega (arith, c.as_chunks.ensures.front_len))) in
     let Yes = λ (x : List ℕ). is_pair lines (pair_at x 0) ≡ true in
     let No = λ (x : List ℕ). is_pair lines (pair_at x 0) ≡ false in
     all-cases Yes No chunks [] test (λ i l y. sym (its i l) ∙ y) (λ i l n. sym (its i l) ∙ n) c.all.result

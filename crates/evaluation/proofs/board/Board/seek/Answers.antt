@@ -3,7 +3,7 @@ use borrow.Author.Tests.{ltb-true, ltb-false, lt-ltb, tests}
 use native.Mathlib.Nat.{eq-or-lt_of_le}
 use native.Mathlib.Omega.{arith}
 use Prim.Native.Nat.{ℕ, ◌/◌, ◌<◌}
-use mathlib.Core.Path.{◌≡◌, ap, ◌∙◌}
+use mathlib.Core.Path.{◌≡◌, ap}
 use mathlib.Core.Bool.{Bool, true, false}
 use mathlib.Core.List.{List, []}
 use mathlib.Core.Logic.{⊎_elim}
@@ -31,9 +31,7 @@ module _ (c : After-partition_point-at) where
   lower bytes = ltb (rank_of (hold_at bytes 0)) c.args.rank
 
   its : (i : ℕ) (d : List ℕ) → i < length holds / 3 → rank_of (hold_at (get_or chunks i d) 0) ≡ rank_of (hold_at holds i)
-  its i d l =
-      ap (λ (chunks : List (List ℕ)). rank_of (hold_at (get_or chunks i d) 0)) c.as_chunks.ensures.front
-      ∙ ap rank_of (hold-chunk holds i d l)
+  its i d l = ap rank_of (hold-chunk _ _ c.as_chunks.ensures.front l)
 
   parted : IsPartitionedBy lower chunks
   parted i j d le l e =
