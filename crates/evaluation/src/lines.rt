@@ -85,7 +85,8 @@ impl Board<'_> {
         on_line
     }
 
-    // Works out a gate with its pins' holds and its line's.
+    // Works out a gate with its pins' holds and its line's. Each by a match: `unwrap_or` would read the source first, which takes a third
+    // longer where every first pin is held.
     fn put_pinned(&self, cursor: &mut Cursor, line: usize, lines: &mut [u8])
         requires walks { Walks self.now.holds.now line cursor.old }
         requires bounds { (first_of self.now ≤ line) × (line < end_of self.now) }
@@ -94,14 +95,18 @@ impl Board<'_> {
         ensures lines_after { lines.new ≡ worked self.now line (line + 1) lines.old }
     {
         let gate = netlist::gate_at(self.gates, line - self.gate_line());
-        let left = self
-            .held(&mut cursor.pin, 65537 + 2 * line)
-            .unwrap_or(lines[gate.left as usize]);
-        let right = self
-            .held(&mut cursor.pin, 65538 + 2 * line)
-            .unwrap_or(lines[gate.right as usize]);
-        let made = make(gate.kind, left, right);
-        lines[line] = self.held(&mut cursor.line, line).unwrap_or(made);
+        let left = match self.held(&mut cursor.pin, 65537 + 2 * line) {
+            Some(level) => level,
+            None => lines[gate.left as usize],
+        };
+        let right = match self.held(&mut cursor.pin, 65538 + 2 * line) {
+            Some(level) => level,
+            None => lines[gate.right as usize],
+        };
+        lines[line] = match self.held(&mut cursor.line, line) {
+            Some(shown) => shown,
+            None => make(gate.kind, left, right),
+        };
     }
 
     // Works out gates from one line to another: those up to the next whose pin is held, then that one, and so on.

@@ -44,7 +44,8 @@ pub fn ends_at(file: &[u8], at: usize) -> bool
     matches!(cursor.next(file), Step::End)
 }
 
-// The fields that a file begins with.
+// The fields that a file begins with. Inlined, for a call copies the row: a run without gates takes half as long again then.
+#[inline(always)]
 pub fn first_four(file: &[u8]) -> Row
     ensures { Opens file.now result }
 {

@@ -1,14 +1,18 @@
 -- `Board::put_pinned` meets its contract: the gate's two pins, then its line.
 use native.Mathlib.Omega.{arith}
 use Prim.Native.Nat.{ℕ, ◌+◌, ◌*◌, ◌-◌, ◌/◌, ◌<◌}
-use mathlib.Core.Path.{◌≡◌}
-use lib.ListN.{length}
+use mathlib.Core.Path.{◌≡◌, refl, sym, ap, ◌∙◌}
+use lib.ListN.{length, get_or}
+use Rattle.std.specs.Prelude.{Option}
+use Rattle.std.specs.Option.{unwrap_or}
 use Rattle.netlist.specs.Netlist.{gate_at}
 use Rattle.netlist.proofs.Sound.{GateOn}
 use Rattle.wiring.proofs.Tests.{gates-at}
+use Rattle.simulation.specs.Run.{gate_of}
+use Rattle.simulation.specs.Service.{read_back}
 use Rattle.evaluation.specs.Inner.Walk.{first_of}
 use Rattle.evaluation.proofs.Walking.{gate-pinned}
-use Rattle.evaluation.proofs.board.Board.put_pinned.Goals.{After-gate_at-gate}
+use Rattle.evaluation.proofs.board.Board.put_pinned.Goals.{After-gate_at-gate, in-Some, in-None, in-Some-held, in-None-held, in-Some-held-2, in-None-held-2}
 use Rattle.evaluation.proofs.board.Board.put_pinned.Goals as goal
 
 -- The line is small, in the buffer, and its gate reads lower lines.
@@ -45,9 +49,9 @@ pub held-requires : goal.held-requires
 held-requires c =
     (c.requires.walks.pins, omega (arith, small (goal.at.held-requires c).After-gate_at-gate))
 
-pub bounds-lines-gate-2 : goal.bounds-lines-gate-2
-bounds-lines-gate-2 c =
-    let here = (goal.at.bounds-lines-gate-2 c).After-gate_at-gate in
+pub bounds-lines-gate-in-None-held : goal.bounds-lines-gate-in-None-held
+bounds-lines-gate-in-None-held c =
+    let here = (goal.at.bounds-lines-gate-in-None-held c).After-gate_at-gate in
     omega (arith, (wired here).right, fits here)
 
 pub held-requires-2 : goal.held-requires-2
@@ -55,8 +59,8 @@ held-requires-2 c =
     let next : 65537 + 2 * c.args.line + 1 ≡ 65538 + 2 * c.args.line = omega arith in
     (rw next at c.held.ensures.awaits, omega (arith, small (goal.at.held-requires-2 c).After-gate_at-gate))
 
-pub make-made-requires : goal.make-made-requires
-make-made-requires c = (wired (goal.at.make-made-requires c).After-gate_at-gate).kind
+pub make-requires : goal.make-requires
+make-requires c = (wired (goal.at.make-requires c).After-gate_at-gate).kind
 
 pub held-requires-3 : goal.held-requires-3
 held-requires-3 c =
@@ -69,8 +73,26 @@ pub returns : goal.returns
 returns c =
     let here = (goal.at.returns c).After-gate_at-gate in
     let a = c.args in
+    let m = c.gate_at-gate.result in
+    let first = get_or a.lines.now m.left 0 in
+    let second = get_or a.lines.now m.right 0 in
+    let left : c.match-held.left ≡ unwrap_or c.held.result first =
+    elim c.match-held.branch [
+      | in-Some w ↦ w.left-is ∙ ap (λ (o : Option ℕ). unwrap_or o first) (sym w.in-Some.is)
+      | in-None w ↦ w.left-is ∙ ap (λ (o : Option ℕ). unwrap_or o first) (sym w.in-None.is)
+    ] in
+    let right : c.match-held-2.right ≡ unwrap_or c.held-2.result second =
+    elim c.match-held-2.branch [
+      | in-Some-held w ↦ w.right-is ∙ ap (λ (o : Option ℕ). unwrap_or o second) (sym w.in-Some-held.is)
+      | in-None-held w ↦ w.right-is ∙ ap (λ (o : Option ℕ). unwrap_or o second) (sym w.in-None-held.is)
+    ] in
+    let made = gate_of m.kind (read_back c.match-held.left) (read_back c.match-held-2.right) in
+    let shown : c.match-held-3.lines ≡ unwrap_or c.held-3.result made =
+    elim c.match-held-3.branch [
+      | in-Some-held-2 w ↦ w.lines-is ∙ ap (λ (o : Option ℕ). unwrap_or o made) (sym w.in-Some-held-2.is)
+      | in-None-held-2 w ↦ w.lines-is ∙ w.make.ensures ∙ ap (λ (o : Option ℕ). unwrap_or o made) (sym w.in-None-held-2.is)
+    ] in
     let both =
-    gate-pinned a.self.now a.lines.now c.requires.room a.line (g here) c.gate_at-gate.result (at here) (within here) (gate-is here)
-    c.held.result c.held-2.result c.held-3.result c.held.ensures c.unwrap_or-left.ensures c.held-2.ensures c.unwrap_or-right.ensures
-    c.make-made.ensures c.held-3.ensures c.unwrap_or.ensures in
+    gate-pinned a.self.now a.lines.now c.requires.room a.line (g here) m (at here) (within here) (gate-is here) c.held.result
+    c.held-2.result c.held-3.result c.held.ensures left c.held-2.ensures right refl c.held-3.ensures shown in
     record { walks = both.0; lines_after = both.1 }
