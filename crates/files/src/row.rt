@@ -44,7 +44,8 @@ pub fn ends_at(file: &[u8], at: usize) -> bool
     matches!(cursor.next(file), Step::End)
 }
 
-// The fields that a file begins with.
+// The fields that a file begins with. As a call, it moves what they hold through memory, padding too: small files took a third longer.
+#[inline(always)]
 pub fn first_four(file: &[u8]) -> Row
     ensures { Opens file.now result }
 {
