@@ -13,39 +13,45 @@ use few::Few;
 use files::{Refusal, Room};
 
 // Writes the fields before the levels' and lists the functions of the outputs; none if they are more than eight.
-fn put_outputs(truths: Truths<'_>, outputs: &[usize], file: &mut [u8]) -> Option<Few<usize>>
+fn put_outputs(
+    truths: Truths<'_>,
+    outputs: &[usize],
+    file: &mut [u8],
+    level: &mut Few<usize>,
+) -> Option<()>
     requires { (length outputs.now ≤ 8) × Blocks truths.words.now truths.left outputs.now
         × (7 + length outputs.now ≤ length file.old) }
     ensures value { let f = mention_at truths.entry.words.now truths.entry.left outputs.now in
         is_some result ≡ is_few truths.entry.left (level_of f (length outputs.now) 0) }
     ensures put { let f = mention_at truths.entry.words.now truths.entry.left outputs.now in
-        IfSome result (λ level. Put truths.entry.words.now truths.entry.left (level_of f (length outputs.now) 0) 0
-        (head_bytes truths.entry.left (length outputs.now) f) file.old file.new level) }
+        IfSome result (λ u. Put truths.entry.words.now truths.entry.left (level_of f (length outputs.now) 0) 0
+        (head_bytes truths.entry.left (length outputs.now) f) file.old file.new level.new) }
 {
     let m = outputs.len();
     let mut numbers = [0u8; 8];
-    let level = truths.enter(outputs, &mut numbers[..m])?;
+    truths.enter(outputs, &mut numbers[..m], level)?;
     files::put_field(file, 0, 1, &[truths.left as u8]);
     files::put_field(file, 4, 2, &numbers[..m]);
-    Some(level)
+    Some(())
 }
 
-// Writes the field of a level and lists the functions of the next, halves of the level's own; none if they are more than eight.
-fn put_level(truths: Truths<'_>, level: &[usize], file: &mut [u8], at: usize) -> Option<Few<usize>>
-    requires { (truths.left ≤ 11) × (length level.now ≤ 8) × Blocks truths.words.now (suc truths.left) level.now
-        × (length truths.words.now ≤ 512) × (at + 3 + 2 * length level.now ≤ length file.old) }
-    ensures value { let fs = blocks_at truths.entry.words.now (suc truths.entry.left) level.now in
+// Writes the field of a level and lists the functions of the next in its place, halves of its own; none if they are more than eight.
+fn put_level(truths: Truths<'_>, level: &mut Few<usize>, file: &mut [u8], at: usize) -> Option<()>
+    requires { (truths.left ≤ 11) × Blocks truths.words.now (suc truths.left) level.old
+        × (length truths.words.now ≤ 512) × (at + 3 + 2 * length level.old ≤ length file.old) }
+    ensures value { let fs = blocks_at truths.entry.words.now (suc truths.entry.left) level.old in
         is_some result ≡ is_few truths.entry.left (next_of fs) }
-    ensures put { let fs = blocks_at truths.entry.words.now (suc truths.entry.left) level.now in
-        IfSome result (λ next. Put truths.entry.words.now truths.entry.left (next_of fs) at (level_bytes fs) file.old file.new next) }
+    ensures put { let fs = blocks_at truths.entry.words.now (suc truths.entry.left) level.old in
+        IfSome result (λ u. Put truths.entry.words.now truths.entry.left (next_of fs) at (level_bytes fs) file.old file.new level.new) }
 {
     let mut halves = [0usize; 16];
-    halve(level, truths.left, &mut halves);
-    let count = 2 * level.len();
+    let starts = level.as_slice();
+    halve(starts, truths.left, &mut halves);
+    let count = 2 * starts.len();
     let mut numbers = [0u8; 16];
-    let next = truths.enter(&halves[..count], &mut numbers[..count])?;
+    truths.enter(&halves[..count], &mut numbers[..count], level)?;
     files::put_field(file, at, 3, &numbers[..count]);
-    Some(next)
+    Some(())
 }
 
 // Lays the table's file out from the start of a buffer, level by level, and gives its length; none if a level has more than eight
@@ -57,17 +63,17 @@ fn lay(words: &[u64], n: usize, outputs: &[usize], file: &mut [u8]) -> Option<us
     ensures written { let f = mention_at words.now n outputs.now in
         IfSome result (λ bytes. (bytes ≤ 243) × (file.new ≡ sets file.old 0 (bytes_of (canonical n (length outputs.now) f)))) }
 {
-    let mut level = put_outputs(Truths { words, left: n }, outputs, file)?;
+    let mut level = Few::new(0);
+    put_outputs(Truths { words, left: n }, outputs, file, &mut level)?;
     let mut at = 7 + outputs.len();
     for l in 0..n {
         let truths = Truths {
             words,
             left: n - 1 - l,
         };
-        let starts = level.as_slice();
-        let next = put_level(truths, starts, file, at)?;
-        at += 3 + 2 * starts.len();
-        level = next;
+        let width = level.as_slice().len();
+        put_level(truths, &mut level, file, at)?;
+        at += 3 + 2 * width;
     }
     Some(at)
 }

@@ -29,13 +29,12 @@ impl Truths<'_> {
     }
 
     // Numbers mentions of functions of a level, and lists those first mentioned; none if they are more than eight.
-    fn number(self, mentions: &[usize], numbers: &mut [u8]) -> Option<Few<usize>>
+    fn number(self, mentions: &[usize], numbers: &mut [u8], level: &mut Few<usize>) -> Option<()>
         requires { (1 ≤ self.left) × Blocks self.words.now self.left mentions.now
-            × (length numbers.old ≡ length mentions.now) }
+            × (length numbers.old ≡ length mentions.now) × (level.old ≡ []) }
         ensures value { is_some result ≡ is_few self.entry.left (level_at self.entry.words.now self.entry.left mentions.now) }
-        ensures numbered { IfSome result (λ level. Numbered self.entry.words.now self.entry.left mentions.now numbers.new level) }
+        ensures numbered { IfSome result (λ u. Numbered self.entry.words.now self.entry.left mentions.now numbers.new level.new) }
     {
-        let mut level = Few::new(0);
         for (k, start) in mentions.iter().enumerate() {
             let number = match self.find(level.as_slice(), *start) {
                 Some(number) => number,
@@ -50,7 +49,7 @@ impl Truths<'_> {
             };
             numbers[k] = number as u8;
         }
-        Some(level)
+        Some(())
     }
 
     // Numbers mentions of constants, by their values.
@@ -64,15 +63,16 @@ impl Truths<'_> {
     }
 
     // Numbers mentions of a level, and lists its functions where they are not constants; none if they are more than eight.
-    pub fn enter(self, mentions: &[usize], numbers: &mut [u8]) -> Option<Few<usize>>
+    pub fn enter(self, mentions: &[usize], numbers: &mut [u8], level: &mut Few<usize>) -> Option<()>
         requires { Blocks self.words.now self.left mentions.now × (length numbers.old ≡ length mentions.now) }
         ensures value { is_some result ≡ is_few self.entry.left (level_at self.entry.words.now self.entry.left mentions.now) }
-        ensures numbered { IfSome result (λ level. Numbered self.entry.words.now self.entry.left mentions.now numbers.new level) }
+        ensures numbered { IfSome result (λ u. Numbered self.entry.words.now self.entry.left mentions.now numbers.new level.new) }
     {
+        *level = Few::new(0);
         if self.left == 0 {
             self.number_constants(mentions, numbers);
-            return Some(Few::new(0));
+            return Some(());
         }
-        self.number(mentions, numbers)
+        self.number(mentions, numbers, level)
     }
 }

@@ -56,6 +56,26 @@ fn mark_one(truths: &mut [u64], at: usize, word: u8, j: usize, pattern: u64)
     truths[at] |= pattern;
 }
 
+// How truth tables lie in an array: of so many outputs, each in so many words of 64 inputs.
+#[derive(Clone, Copy, Drop)]
+struct Tables {
+    words: usize,
+    outputs: usize,
+    ghost few: { (outputs ≤ 8) × (words ≤ 64) },
+}
+
+impl Tables {
+    // Puts a pattern into word w of the truth tables of the outputs that a permit word has. An output's number is also the bit of the word.
+    fn mark(self, truths: &mut [u64], w: usize, word: u8, pattern: u64)
+        requires { (w < self.words) × (self.outputs * self.words ≤ length truths.old) × (length truths.old ≤ 512) }
+        ensures { Marked self.words self.outputs w word pattern truths.old truths.new }
+    {
+        for j in 0..self.outputs {
+            mark_one(truths, j * self.words + w, word, j, pattern);
+        }
+    }
+}
+
 // Whether every bit of some words is set.
 fn are_full(words: &[u64]) -> bool
     ensures { result ≡ all (length words.now) (λ i. is_full (get_or words.now i 0)) }
@@ -87,22 +107,10 @@ impl<const N: usize> Gathering<N> {
         }
     }
 
-    // Puts a pattern into word w of the truth tables of the outputs that a permit word has. An output's number is also the bit of the word.
-    fn mark(&mut self, w: usize, word: u8, pattern: u64)
-        requires { w < self.old.words }
-        ensures same { (self.new.words ≡ self.old.words) × (self.new.outputs ≡ self.old.outputs) × (self.new.ruled ≡ self.old.ruled) }
-        ensures marked { Marked self.old.words self.old.outputs w word pattern self.old.truths self.new.truths }
-    {
-        let words = self.words;
-        for j in 0..self.outputs {
-            mark_one(&mut self.truths, j * words + w, word, j, pattern);
-        }
-    }
-
     // Adds the inputs of a rule in word w to those that fit a rule, and to the truth tables of the outputs that it has, if none of them
-    // fits a rule before.
-    fn add_word(&mut self, rule: Rule, w: usize) -> Shares
-        requires { w < self.old.words }
+    // fits a rule before. The sizes are handed over: with those of self, read again in every word, from-rules was slower by a third.
+    fn add_word(&mut self, rule: Rule, tables: Tables, w: usize) -> Shares
+        requires { (w < self.old.words) × (tables.words ≡ self.old.words) × (tables.outputs ≡ self.old.outputs) }
         ensures same { (self.new.words ≡ self.old.words) × (self.new.outputs ≡ self.old.outputs) }
         ensures put { PutIf result self.old.words self.old.outputs rule.cube rule.word w self.old.ruled self.old.truths self.new.ruled self.new.truths }
     {
@@ -114,17 +122,22 @@ impl<const N: usize> Gathering<N> {
             return Shares::Shared;
         }
         self.ruled[w] = before | rule.cube.pattern;
-        self.mark(w, rule.word, rule.cube.pattern);
+        tables.mark(&mut self.truths, w, rule.word, rule.cube.pattern);
         Shares::Apart
     }
 
-    // The same in every word, by its number, to the first input that fits a rule before.
+    // The same in every word, by its number, to the first input that fits a rule before. Inlined, it lacks registers: a tenth slower.
+    #[inline(never)]
     fn add(&mut self, rule: Rule) -> Shares
         ensures same { (self.new.words ≡ self.old.words) × (self.new.outputs ≡ self.old.outputs) }
         ensures added { AddedIf result self.old.words self.old.outputs rule.cube rule.word self.old.ruled self.old.truths self.new.ruled self.new.truths }
     {
-        for w in 0..self.words {
-            let Shares::Apart = self.add_word(rule, w) else {
+        let tables = Tables {
+            words: self.words,
+            outputs: self.outputs,
+        };
+        for w in 0..tables.words {
+            let Shares::Apart = self.add_word(rule, tables, w) else {
                 return Shares::Shared;
             };
         }

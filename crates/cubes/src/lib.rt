@@ -35,11 +35,8 @@ impl Words {
         requires { (self.mask < 64) × (self.value < 64) }
         ensures { (result.mask ≡ 2 * self.mask + mask_digit byte) × (result.value ≡ 2 * self.value + value_digit byte) }
     {
-        let (mask, value) = match byte {
-            0 => (1, 0),
-            1 => (1, 1),
-            _ => (0, 0),
-        };
+        let mask = if byte < 2 { 1 } else { 0 };
+        let value = if byte == 1 { 1 } else { 0 };
         Words {
             mask: 2 * self.mask + mask,
             value: 2 * self.value + value,

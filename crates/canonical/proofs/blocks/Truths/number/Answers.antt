@@ -23,7 +23,7 @@ pub loop-k-init : goal.loop-k-init
 loop-k-init c =
     let s = c.args.self in
     record {
-      entered = rw c.new-level.ensures (none-entered s.words.now s.left c.args.mentions.now);
+      entered = rw c.requires.3 (none-entered s.words.now s.left c.args.mentions.now);
       numbers-are = numbered-none (number s.words.now s.left c.args.mentions.now);
     }
 

@@ -12,5 +12,5 @@ returns-then-before-rule-ne0-clause-put g c =
 
 pub returns-clause-put : goal.returns-clause-put
 returns-clause-put g c =
-    rw c.mark.ensures.same.2
-    (put_one _ _ c.args.rule.cube c.args.rule.word _ _ _ (sym c.has.ensures ∙ c.if-not-has.false) c.requires c.if-before-rule-ne0.false (omega arith) c.mark.ensures.marked)
+    put_one _ _ c.args.rule.cube c.args.rule.word _ _ _ (sym c.has.ensures ∙ c.if-not-has.false) c.requires.0 c.if-before-rule-ne0.false (omega arith)
+    (rw (← c.requires.1, ← c.requires.2) c.mark.ensures)
