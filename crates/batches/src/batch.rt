@@ -54,7 +54,8 @@ pub fn show<T: Copy + Drop>(line: usize, held: T, at: usize, made: T) -> T
     if line == at { held } else { made }
 }
 
-// The line whose site is held: a held line holds every site of it, a held pin one. 0, which nothing drives, if there is none.
+// The line whose site is held: a held line holds every site of it, a held pin one. 0, which nothing drives, if there is none, so
+// that one comparison serves.
 pub fn held_line(hold: Hold, site: Site) -> usize
     ensures { result ≡ held_line hold (site_number site) }
 {

@@ -12,6 +12,7 @@ fn main(rt: HostRuntime) -> io::Result<()> {
     let mut text = [0u8; 65536];
     let mut reader = rt.reader();
     let mut len = 0;
+    // Each read but the last gives a byte at least.
     for _ in 0..65536 {
         let count = reader.read(&mut text[len..])?;
         if count == 0 {

@@ -66,6 +66,7 @@ fn lay(words: &[u64], n: usize, outputs: &[usize], file: &mut [u8]) -> Option<us
     let mut level = Few::new(0);
     put_outputs(Truths { words, left: n }, outputs, file, &mut level)?;
     let mut at = 7 + outputs.len();
+    // By number: l is the level.
     for l in 0..n {
         let truths = Truths {
             words,

@@ -83,7 +83,8 @@ fn are_full(words: &[u64]) -> bool
     words.iter().all(|word| *word == bits::ONES)
 }
 
-// The inputs that fit a rule before, and the outputs' truth tables by these rules: so many words of 64 inputs each.
+// The inputs that fit a rule before, and the outputs' truth tables by these rules: so many words of 64 inputs each, in
+// arrays, as there is no heap.
 #[derive(Drop)]
 pub struct Gathering<const N: usize> {
     words: usize,

@@ -31,6 +31,7 @@ pub fn from_rules(rules: &[u8], table: &mut [u8]) -> Result<u32, Refusal>
         return Err(Refusal::Rules);
     };
     let most = sheet.outputs << rows::fixed_contacts(sheet.contacts);
+    // Chosen here: a length is a const argument, which no function hands in.
     if most <= 8 {
         return write::<8>(&sheet, table);
     }

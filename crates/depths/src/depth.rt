@@ -6,7 +6,7 @@ ghost use Rattle.depths.specs.Inner.Depths.{depths_from, SourcesBelow};
 
 use netlist::Gate;
 
-// Works out the depths of the gates, whose lines go from `first` up, and returns the largest.
+// Works out the depths of the gates, whose lines go from `first` up, and returns the largest. The buffer has a place for each line: no heap.
 fn scan(gates: &[u8], first: usize, depths: &mut [u16]) -> u16
     requires count_bound { (length gates.now / 5 ≤ 65535) × (first + length gates.now / 5 ≤ length depths.old)
         × (take first depths.old ≡ replicate first 0) }
@@ -39,6 +39,7 @@ pub fn depth_of(gates: &[u8], n: usize) -> usize
     requires sources_below { SourcesBelow gates.now (2 + 2 * n) (length gates.now / 5) }
     ensures { result ≡ depth_of (net_with n (gates_of gates.now) [] []) }
 {
+    // Chosen here: a length is a const argument, which no function hands in.
     if gates.len() / 5 <= 1974 {
         return depth_within::<2_000>(gates, n);
     }

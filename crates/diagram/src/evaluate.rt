@@ -12,6 +12,7 @@ impl Diagram {
     {
         let mut u = node;
         let mut rest = input;
+        // By number: l is the level.
         for l in 0..self.contacts {
             u = fields::byte(
                 &self.edges,

@@ -62,6 +62,7 @@ impl Diagram {
         requires { Fit self.now × (self.now.outputs ≤ 8) }
         ensures { result ≡ range_of self.now }
     {
+        // By number, as each level has mentions and a width.
         for level in 0..=self.contacts {
             if !below(self.mentions(level), self.width(level)) {
                 return Range::Outside;
@@ -75,6 +76,7 @@ impl Diagram {
         requires { Fit self.now × (self.now.outputs ≤ 8) }
         ensures { result ≡ numbering_of self.now }
     {
+        // By number, as each level has mentions and a width.
         for level in 0..self.contacts {
             if !in_turn(self.mentions(level), self.width(level)) {
                 return Numbering::OutOfTurn;

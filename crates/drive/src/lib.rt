@@ -47,7 +47,8 @@ pub fn ask_rails(n: usize, rails: &[u8]) -> Rails
     }
 }
 
-// Where a hold stands in a hold list: lines first, rising, then pins by rising gate, the first before the second.
+// Where a hold stands in a hold list: lines first, rising, then pins by rising gate, the first before the second. No derived order puts
+// pins behind all lines, and a step seeks by the number.
 pub fn rank(hold: Hold) -> usize
     ensures { result ≡ rank_of hold }
 {

@@ -47,6 +47,7 @@ impl Board<'_> {
         ensures lines_after { lines.new ≡ worked self.now from to lines.old }
     {
         let mut on_line = next;
+        // By number: x is the line, by which its hold is found.
         for x in from..to {
             lines[x] = self.held(&mut on_line, x).unwrap_or(self.rails[x - 2]);
         }
@@ -76,6 +77,7 @@ impl Board<'_> {
         ensures lines_after { lines.new ≡ worked self.now from to lines.old }
     {
         let mut on_line = next;
+        // By number: x is the line, by which its hold is found.
         for x in from..to {
             lines[x] = match self.held(&mut on_line, x) {
                 Some(value) => value,

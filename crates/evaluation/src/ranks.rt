@@ -5,7 +5,8 @@ ghost use Rattle.evaluation.specs.Inner.Walk.{IsNext, Awaits, Looks};
 use crate::board::Board;
 use netlist::Hold;
 
-// The next hold: its place in the list and its rank, which is past every rank where the list has ended.
+// The next hold: its place in the list and its rank, which is past every rank where the list has ended, so that one
+// comparison serves.
 #[derive(Clone, Copy, Drop)]
 pub struct Next {
     pub at: usize,

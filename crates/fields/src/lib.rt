@@ -20,7 +20,7 @@ pub struct Cursor {
     pub at: usize,
 }
 
-// What stands at a cursor.
+// What stands at a cursor: three cases, so neither an Option nor a Result.
 #[derive(Clone, Copy, Drop)]
 pub enum Step {
     // A whole field, and the cursor moved past it.
@@ -95,6 +95,7 @@ impl Cursor {
         ensures { items_from file.now result.at ≡ drop count (items_from file.now self.at) }
     {
         let mut cursor = self;
+        // So many steps of a cursor that is handed back moved.
         for _ in 0..count {
             let Step::Next(_, moved) = cursor.next(file) else {
                 return cursor;

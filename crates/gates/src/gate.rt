@@ -12,7 +12,7 @@ pub struct Gates<'a> {
 }
 
 impl<'a> Gates<'a> {
-    // Makes a gate on the next line: AND (kind 0) or OR (kind 1) of two lines. Returns its line.
+    // Makes a gate on the next line: AND (kind 0) or OR (kind 1) of two lines, the kind as the file has it. Returns its line.
     pub fn gate(&mut self, kind: u8, left: u16, right: u16) -> u16
         requires { GateRoom self.old 1 }
         ensures { Written (gate kind left right) self.old self.new result }

@@ -10,7 +10,7 @@ mod parts;
 pub use file::{length_of, put_file};
 pub use parts::{gate_at, hold_at, number_at, pair_at};
 
-// A gate: AND (kind 0) or OR (kind 1) of two lines.
+// A gate: AND (kind 0) or OR (kind 1) of two lines. The kind is a byte, since question 12 is asked of every byte that a file may have.
 #[derive(Clone, Copy, Drop)]
 pub struct Gate {
     pub kind: u8,
@@ -25,7 +25,8 @@ pub struct Pair {
     pub off: u16,
 }
 
-// A stuck line or pin: value 0 or 1 holds the line at it, 2 or 3 the first pin of its gate at 0 or 1, 4 or 5 the second.
+// A stuck line or pin: value 0 or 1 holds the line at it, 2 or 3 the first pin of its gate at 0 or 1, 4 or 5 the second. It is a byte, since question
+// 14 is asked of every byte.
 #[derive(Clone, Copy, Drop)]
 pub struct Hold {
     pub line: u16,

@@ -151,6 +151,7 @@ pub fn probe(table: &[u8], hold: &[u8], buffer: &mut [u8]) -> Result<Probed, Ref
 {
     let d = table::read(table)?;
     let most = synthesis::most_gates(&d);
+    // Chosen here: a length is a const argument, which no function hands in.
     if most <= 960 {
         return probe_within::<4_800>(&d, hold, buffer);
     }

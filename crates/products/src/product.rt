@@ -14,7 +14,7 @@ use rules::Entry;
 // that no matrix stores them.
 pub type Rows = [[Entry; 8]; 8];
 
-// The factors of a row: the middle nodes whose factor is not never, upward, and whether some factor is always.
+// The factors of a row: the middle nodes whose factor is not never, upward, and whether some factor is always, a fact of its own.
 #[derive(Drop)]
 struct Factors {
     nodes: Few<usize>,

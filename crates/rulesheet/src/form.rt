@@ -67,6 +67,7 @@ fn count_rules(file: &[u8], at: usize, n: usize, m: usize) -> Option<usize>
     ensures { result ≡ rules_counted n m (fields_from file.now at) }
 {
     let mut place = at;
+    // By number: i rules are the answer where the fields end.
     for i in 0..64 {
         let Some((field, past)) = files::take(file, place) else {
             return count_if_ended(file, place, i);

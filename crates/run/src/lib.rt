@@ -103,7 +103,7 @@ fn ask(
     Ok(())
 }
 
-// A step of a netlist that has been read: what both services do.
+// A step of a netlist that has been read: what both services do, with the parameters as C hands them over.
 fn step_read(
     parts: &Parts<'_>,
     rails: &[u8],

@@ -51,6 +51,7 @@ fn search_in(
         taken: &taken[..board.gates.len() / 5],
     };
     let lines = board.line_count();
+    // By number: inputs have no list.
     for base in (0..1usize << board.contacts).step_by(128) {
         held.work_batches(base, batches);
         let masks = agreeing(board.pairs, &batches[..lines]);
@@ -88,6 +89,7 @@ fn search_within<const GATES: usize, const LINES: usize>(board: Board, hold: Hol
 pub fn search(board: Board, hold: Hold) -> Option<u32>
     ensures { result ≡ found_in (net_of board.entry.contacts board.entry.gates.now board.entry.pairs.now) hold }
 {
+    // Chosen here: a length is a const argument, which no function hands in.
     if board.gates.len() <= 1150 {
         return search_within::<230, 256>(board, hold);
     }

@@ -11,7 +11,7 @@ use crate::Board;
 use batches::{Site, TwoBatches};
 use netlist::{Gate, Hold};
 
-// Both batches of a line that is at one value everywhere.
+// Both batches of a line that is at one value everywhere, 0 or 1 as a hold has it.
 fn same_batches(value: u8) -> TwoBatches
     requires { value ≤ 1 }
     ensures first { (k : ℕ) → k < 64 → bit_of k result.first ≡ value }
@@ -84,6 +84,7 @@ impl HeldBoard<'_> {
     {
         let held = batches::held_line(self.hold, Site::Line);
         let level = same_batches(self.hold.value % 2);
+        // By number: i is the contact.
         for i in 0..self.board.contacts {
             let at = 2 + 2 * i;
             let (on, off) = rail_batches(i, base);

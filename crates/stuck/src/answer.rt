@@ -23,7 +23,8 @@ impl From<u8> for Way {
     }
 }
 
-// The smallest betraying input, the lowest output that shows it there and the way it shows; or hidden.
+// The smallest betraying input, the lowest output that shows it there and the way it shows; or hidden, with
+// the numbers 0, as C has it.
 #[derive(Clone, Copy, Drop)]
 pub struct Probed {
     pub input: u32,

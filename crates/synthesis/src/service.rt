@@ -81,6 +81,7 @@ pub fn check(table: &[u8]) -> Result<Counts, Refusal>
 {
     let d = table::read(table)?;
     let most = board::most_gates(&d);
+    // Chosen here: a length is a const argument, which no function hands in.
     if most <= 960 {
         return Ok(measure::<4_800>(&d));
     }
@@ -143,6 +144,7 @@ fn build_as(table: &[u8], lamp: Lamp, file: &mut [u8]) -> Result<u32, Refusal>
 {
     let d = table::read(table)?;
     let most = board::most_gates(&d);
+    // Chosen here: a length is a const argument, which no function hands in.
     if most <= 960 {
         return write::<5_010>(&d, lamp, file);
     }
@@ -160,7 +162,7 @@ pub fn build(table: &[u8], file: &mut [u8]) -> Result<u32, Refusal>
     build_as(table, Lamp::Without, file)
 }
 
-// The same of the netlist with its lamp.
+// The same of the netlist with its lamp: C calls both.
 pub fn build_with_lamp(table: &[u8], file: &mut [u8]) -> Result<u32, Refusal>
     ensures { written result file.new ≡ lamp_building_of table.now file.old }
 {

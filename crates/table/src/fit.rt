@@ -28,6 +28,7 @@ pub fn ask_levels(file: &[u8], at: usize, n: usize) -> Levels
     ensures { result ≡ levels_in n (items_from file.now at) }
 {
     let mut cursor = Cursor { at };
+    // So many steps of a cursor that is handed back moved.
     for _ in 0..n {
         let Step::Next(field, moved) = cursor.next(file) else {
             return Levels::Lacking;

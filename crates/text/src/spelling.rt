@@ -7,7 +7,7 @@ ghost use Rattle.text.specs.Spelling.{sign_of};
 use std::io;
 use std::io::Write;
 
-// The place of the next sign of a kind from a place on, or the text's end.
+// The place of the next sign of a kind from a place on, or the text's end, where callers cut it either way.
 pub fn find(text: &[u8], from: usize, sign: u8) -> usize
     requires { from ≤ length text.now }
     ensures { (from ≤ result) × (result ≤ length text.now) }
@@ -82,7 +82,7 @@ fn put_length(case: &mut [u8; 1024], start: usize, end: usize)
 }
 
 // The number that the digits of a case's part are, which is to be below a bound; where it is too large, `out` says so, and the
-// number is 0. An error is that of the writing.
+// number is 0, with which the program goes on. An error is that of the writing.
 pub fn number<W: Write>(out: &mut W, case: &[u8], part: usize, bound: usize) -> io::Result<usize>
     requires { 0 < bound }
     ensures { IfOk result (λ n. n < bound) }

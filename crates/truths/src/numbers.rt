@@ -37,6 +37,7 @@ impl Sound<'_> {
         ensures { WordsFrom self.entry.parts.contacts self.entry.parts.nodes.now values.new level }
     {
         let closed = bits::rail_batch(self.parts.contacts - 1 - level, 0);
+        // By number: node i has number 2 + i, where its word goes.
         for i in 0..self.parts.node_count() {
             self.put_node(level, closed, i, values);
         }
@@ -49,6 +50,7 @@ impl Sound<'_> {
     {
         values[0] = 0;
         values[1] = u64::MAX;
+        // By number, the highest level first.
         for level in (rows::fixed_contacts(self.parts.contacts)..self.parts.contacts).rev() {
             self.put_level(level, values);
         }

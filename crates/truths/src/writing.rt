@@ -34,6 +34,7 @@ fn write_with<const N: usize>(drawing: Sound<'_>, table: &mut [u8]) -> Result<u3
         values: &values,
     };
     let most = drawing.parts.outputs.len() << rows::fixed_contacts(drawing.parts.contacts);
+    // Chosen here: a length is a const argument, which no function hands in.
     if most <= 8 {
         words.write::<8>(table)
     } else if most <= 64 {
@@ -47,6 +48,7 @@ fn write_with<const N: usize>(drawing: Sound<'_>, table: &mut [u8]) -> Result<u3
 pub fn write_table(drawing: Sound<'_>, table: &mut [u8]) -> Result<u32, Refusal>
     ensures { written result table.new ≡ drawn_tabling (parted drawing.entry.parts) table.old }
 {
+    // Chosen here: a length is a const argument, which no function hands in.
     if drawing.parts.node_count() <= 14 {
         write_with::<16>(drawing, table)
     } else {

@@ -46,6 +46,7 @@ pub fn find_twins(d: &Diagram) -> Comparison
     ensures { result ≡ comparison_of d.now }
 {
     let mut compared: usize = 0;
+    // By number: the numbers of level and node are the answer.
     for level in 0..d.contacts {
         for later in 0..d.width(level) {
             if let Some(earlier) = first_like(d, level, later) {

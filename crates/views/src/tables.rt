@@ -30,6 +30,7 @@ fn shape<W: Write>(out: &mut W, d: Diagram) -> io::Result<()> {
 // The words at inputs 0 to 8, up to the first that is refused.
 fn words<W: Write>(out: &mut W, file: &[u8]) -> io::Result<()> {
     write!(out, "; read off")?;
+    // By number: a is the input.
     for a in 0..9 {
         match table::read_off(file, a) {
             Ok(word) => write!(out, " {word}")?,

@@ -2,7 +2,8 @@
 ghost use Rattle.std.specs.Prelude.{◌≡◌, ◌+◌, ◌/◌, ◌≤◌, length};
 ghost use Rattle.netlist.specs.Netlist.{gate_line};
 
-// A netlist's contacts and the bytes of its gates, its outputs and its lamp, as many as question 11 admits; of no lamp there are none.
+// A netlist's contacts and the bytes of its gates, its outputs and its lamp, as many as question 11 admits; of no lamp there are none,
+// as the definitions have a list of at most one pair.
 #[derive(Clone, Copy, Drop)]
 pub struct Parts<'a> {
     pub contacts: usize,
