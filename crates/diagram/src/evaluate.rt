@@ -29,8 +29,8 @@ impl Diagram {
         ensures { result ≡ word_at self.now (input_of input) self.now.outputs }
     {
         let mut word: u32 = 0;
-        for j in 0..self.outputs {
-            word += (self.lead(input, self.roots[j]) as u32) << j;
+        for (j, root) in self.roots[..self.outputs].iter().enumerate() {
+            word += (self.lead(input, *root) as u32) << j;
         }
         word
     }

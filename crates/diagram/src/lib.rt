@@ -9,6 +9,7 @@ mod evaluate;
 mod fork;
 mod sound;
 
+pub use fork::forks;
 pub use sound::{Numbering, Range};
 
 // A decoded table. Level l has widths[l] nodes, and its edges stand from 16 l on: 16 l + 2 u is the 0-edge of node u,

@@ -1,22 +1,10 @@
--- The count of contacts by the tests of question 2.
+-- The count of contacts is that of the first field.
 use Prim.Native.Nat.{ℕ}
 use mathlib.Core.Path.{◌≡◌, refl, ap, ◌∙◌}
-use mathlib.Core.Bool.{Bool, ◌&&◌, cond}
 use mathlib.Core.List.{List, [], ◌∷◌}
-use lib.Dec.{eqb}
-use lib.ListN.{length, get_or}
-use Rattle.fields.specs.declared.Field.{Field}
-use Rattle.fields.specs.Fields.{Item, value_of, item_of, item_in}
-use Rattle.fields.specs.Refusals.{between}
-use Rattle.std.specs.Prelude.{Option, Some, None}
+use Rattle.std.specs.Prelude.{Option}
+use Rattle.fields.specs.Fields.{Item, item_in}
 use Rattle.files.specs.Header.{contacts_in}
-
--- Question 2 of a field.
-pub contacts-by : (file : List ℕ) (f : Field) {v : List ℕ} → v ≡ value_of file f → (b : Bool) →
-    (eqb f.tag 1 && eqb (length v) 1 && between 1 (get_or v 0 0) 12) ≡ b →
-    cond b (Some (get_or v 0 0)) None ≡ contacts_in (item_of file f ∷ [])
-unfolding contacts_in
-contacts-by file f w b t = rw (← w, ← t)
 
 -- It is asked of the first field, and a missing one is no count.
 first_alone : (is : List Item) → contacts_in (item_in is 0 ∷ []) ≡ contacts_in is

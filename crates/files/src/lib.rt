@@ -9,7 +9,7 @@ mod room;
 mod row;
 mod write;
 
-pub use header::count_contacts;
+pub use header::{count_contacts, number_field};
 pub use parts::has_parts;
 pub use refusal::Refusal;
 pub use room::{Room, Written, ask_room};

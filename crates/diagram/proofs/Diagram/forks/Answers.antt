@@ -1,20 +1,19 @@
--- `Diagram::forks` meets its contract: the chunks of two are the nodes' edges.
-use Rattle.std.proofs.Common.{rules}
-use Prim.Native.Nat.{ℕ}
-use mathlib.Core.Path.{ap₂}
-use mathlib.Core.Bool.{not}
-use lib.Dec.{eqb}
-use Rattle.diagram.specs.Diagram.{width, edge_at, is_fork}
-use Rattle.diagram.proofs.Bytes.{long, zero-edge, one-edge}
-use Rattle.diagram.proofs.Chunks.{any-chunk}
+-- `Diagram::forks` meets its contract: the limits keep a level's edges within the array, and they stand from 16 l on.
+use native.Mathlib.Omega.{arith}
+use Prim.Native.Nat.{ℕ, ◌*◌}
+use mathlib.Core.Path.{ap, ◌∙◌}
+use Rattle.fields.specs.Bounded.{any}
+use Rattle.diagram.specs.Diagram.{edge_at}
+use Rattle.diagram.specs.Inner.Bytes.{is_fork_at}
+use Rattle.diagram.proofs.Asked.{width_is}
 use Rattle.diagram.proofs.Diagram.forks.Goals as goal
 
+pub forks-requires : goal.forks-requires
+forks-requires c = omega (arith, width_is c.args.self.now c.args.level c.requires.0)
+
 pub returns : goal.returns
+unfolding edge_at
 returns c =
-    let d = c.args.self.now in
-    let l = c.args.level in
-    let edges = c.level.ensures in
-    any-chunk c.level.result.now _ c.chunks_exact.ensures.rest c.chunks_exact.ensures.size c.chunks_exact.ensures.runs _ _
-    (λ a r f h. search rules) (λ v w. not (eqb v w)) (λ x b e h. search rules)
-    (width d l) (long (edge_at d l) _ edges) (is_fork d l) (λ u h. ap₂ (λ (v w : ℕ). not (eqb v w)) (zero-edge d l u edges h) (one-edge d l u edges h))
-    c.any.result c.any.ensures.runs
+    let a = c.args in
+    c.forks.ensures
+    ∙ ap (λ (n : ℕ). any n (is_fork_at a.self.now.edges (a.level * 16))) (width_is a.self.now a.level c.requires.0)

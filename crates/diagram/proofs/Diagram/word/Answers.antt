@@ -3,8 +3,9 @@ use native.Mathlib.Omega.{arith}
 use native.Mathlib.Nat.{mul-le-mul_right}
 use native.Mathlib.Numerals.{add-one}
 use Prim.Native.Nat.{ℕ, ◌+◌, ◌*◌, ◌%◌, ◌^◌, ◌≤◌, ◌<◌}
-use mathlib.Core.Path.{◌≡◌, refl}
-use lib.ListN.{get_or}
+use mathlib.Core.Path.{◌≡◌, refl, ap, ◌∙◌}
+use lib.ListN.{get_or, take}
+use Rattle.std.proofs.lemmas.List.{get_or-take}
 use lib.Pow.{shl_exact}
 use Rattle.diagram.specs.declared.Diagram.{Diagram}
 use Rattle.diagram.specs.Diagram.{input_of, path, root, value_at, word_of, word_at}
@@ -26,16 +27,16 @@ one_more d a j w v e f = rw (add-one j) (cc)
 
 pub loop-j-init : goal.loop-j-init
 unfolding word_of
-loop-j-init c = (omega arith, omega arith, refl)
+loop-j-init c = (omega arith, refl)
 
 pub loop-j-preserved : goal.loop-j-preserved
 loop-j-preserved c =
     let a = c.args in
     let loop = c.loop-j in
     let few : loop.j < 8 = omega (arith, c.requires.1) in
+    let read : get_or (take a.self.now.outputs a.self.now.roots) loop.j 0 ≡ get_or a.self.now.roots loop.j 0 = get_or-take a.self.now.outputs a.self.now.roots loop.j 0 (omega arith) in
     let byte : c.lead.result < 256 = omega (arith, c.lead.type_inv) in
     let e = exact c.lead.result loop.j byte few in (
-      omega arith,
-      rw e (grown loop.word c.lead.result loop.j byte loop.invariant.1),
-      rw e (one_more a.self.now a.input loop.j loop.word c.lead.result loop.invariant.2 c.lead.ensures),
+      rw e (grown loop.word c.lead.result loop.j byte loop.invariant.0),
+      rw e (one_more a.self.now a.input loop.j loop.word c.lead.result loop.invariant.1 (c.lead.ensures ∙ ap (path a.self.now (input_of a.input) a.self.now.contacts 0) read)),
     )
