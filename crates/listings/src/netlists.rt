@@ -1,7 +1,7 @@
 // What check says of a table, and the file that a build writes: its length, each gate by its line and sources, and each output's
 // true and false line, and the lamp's.
 use files::Refusal;
-use netlist::number_at;
+use netlist::{Gate, Pair};
 use std::io;
 use std::io::Write;
 use synthesis::Checked;
@@ -52,22 +52,26 @@ fn show_file<W: Write, F: FnOnce(&[u8], &mut [u8]) -> Result<u32, Refusal>>(
 // The gates from the first line past the rails on, eight to a row.
 fn show_gates<W: Write>(out: &mut W, gates: &[u8], contacts: u8) -> io::Result<()> {
     let first = 2 + 2 * usize::from(contacts);
-    for (g, gate) in gates.chunks_exact(5).enumerate() {
+    for (g, gate) in gates.as_chunks::<5>().0.iter().enumerate() {
+        let gate = Gate::from(gate);
         let before = if g % 8 == 0 { "\n" } else { "; " };
-        let kind = if gate[0] == 0 { "AND" } else { "OR" };
-        let left = number_at(gate, 1);
-        let right = number_at(gate, 3);
-        write!(out, "{before}{} {kind} {left} {right}", first + g)?;
+        let kind = if gate.kind == 0 { "AND" } else { "OR" };
+        write!(
+            out,
+            "{before}{} {kind} {} {}",
+            first + g,
+            gate.left,
+            gate.right
+        )?;
     }
     Ok(())
 }
 
 // Each pair's true line and false line, behind what it is called and its number.
 fn show_pairs<W: Write>(out: &mut W, name: &str, pairs: &[u8]) -> io::Result<()> {
-    for (j, pair) in pairs.chunks_exact(4).enumerate() {
-        let high = number_at(pair, 0);
-        let low = number_at(pair, 2);
-        write!(out, "\n{name} {j}: {high} {low}")?;
+    for (j, pair) in pairs.as_chunks::<4>().0.iter().enumerate() {
+        let pair = Pair::from(pair);
+        write!(out, "\n{name} {j}: {} {}", pair.on, pair.off)?;
     }
     Ok(())
 }

@@ -76,9 +76,7 @@ pub fn sign_of(byte: u8) -> u8
 fn put_length(case: &mut [u8; 1024], start: usize, end: usize)
     requires { (start + 3 ≤ end) × (end ≤ 1024) }
 {
-    let len = end - start - 3;
-    case[start + 1] = (len / 256) as u8;
-    case[start + 2] = (len % 256) as u8;
+    files::put_number(case, start + 1, (end - start - 3) as u16);
 }
 
 // The number that the digits of a case's part are, which is to be below a bound; where it is too large, `out` says so, and the
