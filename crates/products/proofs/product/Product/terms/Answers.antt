@@ -1,4 +1,4 @@
--- `product::terms` meets its contract. The loop's invariant: the terms of the middle nodes passed are made and their lines listed.
+-- `Product::terms` meets its contract. The loop's invariant: the terms of the middle nodes passed are made and their lines listed.
 use native.Mathlib.Omega.{arith}
 use lib.ListN.{get_or}
 use native.Mathlib.Numerals.{add-one}
@@ -8,29 +8,29 @@ use Rattle.rules.specs.declared.Entry.{Entry}
 use Rattle.rules.specs.Blocks.{lines_in}
 use Rattle.products.proofs.Terms.{turned_none, turned_more, turned-room, no-line}
 use Rattle.products.proofs.Listing.{passed-next, passed-last}
-use Rattle.products.proofs.product.terms.Goals.{in-Line, in_default}
-use Rattle.products.proofs.product.terms.Goals as goal
+use Rattle.products.proofs.product.Product.terms.Goals.{in-Line, in_default}
+use Rattle.products.proofs.product.Product.terms.Goals as goal
 
 pub loop-w-init : goal.loop-w-init
 loop-w-init c = record { w = 0; rest = c.requires.listed; turned = rw c.new-lines.ensures (turned_none _ _ _ _) }
 
-pub offset_bounds-left-w : goal.offset_bounds-left-w
-offset_bounds-left-w c =
+pub offset_bounds-self-w : goal.offset_bounds-self-w
+offset_bounds-self-w c =
     let next = passed-next _ _ c.loop-w-test.true c.loop-w.invariant in
     omega (arith, next.below)
 
-pub bounds-left-w : goal.bounds-left-w
-bounds-left-w c =
+pub bounds-self-w : goal.bounds-self-w
+bounds-self-w c =
     let next = passed-next _ _ c.loop-w-test.true c.loop-w.invariant in
     omega (arith, next.below)
 
-pub offset_bounds-right-w : goal.offset_bounds-right-w
-offset_bounds-right-w c =
+pub offset_bounds-self-w-in-loop-w : goal.offset_bounds-self-w-in-loop-w
+offset_bounds-self-w-in-loop-w c =
     let next = passed-next _ _ c.loop-w-test.true c.loop-w.invariant in
     omega (arith, next.below)
 
-pub bounds-right-w : goal.bounds-right-w
-bounds-right-w c =
+pub bounds-self-w-in-loop-w : goal.bounds-self-w-in-loop-w
+bounds-self-w-in-loop-w c =
     let next = passed-next _ _ c.loop-w-test.true c.loop-w.invariant in
     omega (arith, next.below)
 

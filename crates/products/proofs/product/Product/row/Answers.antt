@@ -1,9 +1,9 @@
--- `product::row` meets its contract. The loop's invariant: the columns passed are made and stored.
+-- `Product::row` meets its contract. The loop's invariant: the columns passed are made and stored.
 use native.Mathlib.Omega.{arith}
 use mathlib.Core.Path.{◌≡◌}
 use lib.ListN.{length-set}
 use Rattle.products.proofs.Rows.{row-begun, row-longer, row-room}
-use Rattle.products.proofs.product.row.Goals as goal
+use Rattle.products.proofs.product.Product.row.Goals as goal
 
 pub loop-v-init : goal.loop-v-init
 loop-v-init c = (omega arith, row-begun _ _ _ _ _)

@@ -1,7 +1,7 @@
--- `product::entry` meets its contract: always, or the lines among the terms joined.
+-- `Product::entry` meets its contract: always, or the lines among the terms joined.
 use mathlib.Core.Path.{sym, ◌∙◌}
 use Rattle.products.proofs.Entries.{entry-sure, entry-terms, entry-joins, entry-rest}
-use Rattle.products.proofs.product.entry.Goals as goal
+use Rattle.products.proofs.product.Product.entry.Goals as goal
 
 pub returns : goal.returns
 returns c =

@@ -1,4 +1,4 @@
--- `product::crosses` meets its contract, by what the iterator's `any` says. Without a left factor that is always no term is.
+-- `Product::crosses` meets its contract, by what the iterator's `any` says. Without a left factor that is always no term is.
 use borrow.Author.Tests.{tests}
 use Prim.Native.Nat.{ℕ, ◌<◌}
 use native.Mathlib.Nat.{zero-add}
@@ -15,7 +15,7 @@ use Rattle.fields.specs.Bounded.{any}
 use Rattle.fields.proofs.Bounded.{any_at, any-not}
 use Rattle.rules.proofs.Products.{none-sure}
 use Rattle.products.specs.Inner.Terms.{both_always}
-use Rattle.products.proofs.product.crosses.Goals as goal
+use Rattle.products.proofs.product.Product.crosses.Goals as goal
 
 -- What `any` answers over the first numbers.
 any-is : (n : ℕ) (p : ℕ → Bool) (r : Bool) →
@@ -33,12 +33,12 @@ any-is n p false h =
 
 pub returns-then-some : goal.returns-then-some
 returns-then-some c =
-    let test = both_always c.args.left.now c.args.right.now c.args.u c.args.v in
-    any-is c.args.middle test c.any.result
+    let test = both_always c.args.self.now.left.now c.args.self.now.right.now c.args.u c.args.v in
+    any-is c.args.self.now.middle test c.any.result
     (cases_from_any _ _ c.any.result (λ w. test w ≡ true) (λ w. test w ≡ false) c.any.ensures.ran
-    (YieldsList-from_range 0 c.args.middle c.args.middle refl (omega arith)) (λ x q k. search (rules, tests)) (λ x q k. search (rules, tests)))
+    (YieldsList-from_range 0 c.args.self.now.middle c.args.self.now.middle refl (omega arith)) (λ x q k. search (rules, tests)) (λ x q k. search (rules, tests)))
 
 pub returns-else-some : goal.returns-else-some
 returns-else-some c =
     c.if-some.false
-    ∙ sym (none-sure _ c.args.left.now c.args.right.now c.args.u c.args.v (sym c.requires.some_value ∙ c.if-some.false))
+    ∙ sym (none-sure _ c.args.self.now.left.now c.args.self.now.right.now c.args.u c.args.v (sym c.requires.some_value ∙ c.if-some.false))

@@ -1,6 +1,0 @@
--- `product::factors_of` meets its contract. The loop's invariant: the factors passed are found.
-use Rattle.products.proofs.Listing.{Found}
-use Rattle.products.proofs.product.factors_of.Given as goal
-
-abbrev pub invariant-loop-w : goal.invariant-loop-w
-invariant-loop-w l = Found l.left l.u l.w l.nodes l.some
