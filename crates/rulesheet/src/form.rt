@@ -13,22 +13,7 @@ use fields::Field;
 fn count_outputs(file: &[u8], field: Field) -> Option<usize>
     ensures { result ≡ outputs_counted (item_of file.now field) }
 {
-    let tag = field.tag;
-    let contents = fields::value(file, field);
-    if tag != 8 {
-        return None;
-    }
-    if contents.len() != 1 {
-        return None;
-    }
-    let m = contents[0] as usize;
-    if m < 1 {
-        return None;
-    }
-    if 8 < m {
-        return None;
-    }
-    Some(m)
+    files::number_field(file, field, 8, 8)
 }
 
 // Whether a field is of tag 9: n bytes of 0, 1 or 2, then a word below 2^m.
@@ -92,10 +77,10 @@ pub fn ask_form(file: &[u8]) -> Option<Sheet<'_>>
     let outputs = count_outputs(file, second)?;
     let count = count_rules(file, at, contacts, outputs)?;
     Some(Sheet {
-        file: file,
-        at: at,
-        contacts: contacts,
-        outputs: outputs,
-        count: count,
+        file,
+        at,
+        contacts,
+        outputs,
+        count,
     })
 }
