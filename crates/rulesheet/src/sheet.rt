@@ -1,5 +1,5 @@
 // A well-formed rule sheet, and its rules one after the other.
-ghost use Rattle.std.specs.Prelude.{◌≡◌};
+ghost use Rattle.std.specs.Prelude.{◌≡◌, length};
 ghost use Rattle.std.specs.Iterator.{YieldsFirstRef, item_count};
 ghost use Rattle.std.proofs.Props.{props};
 ghost use Rattle.fields.specs.Fields.{fields_of};
@@ -20,11 +20,13 @@ pub struct Sheet<'a> {
     pub ghost placed: { rules_from file.now at ≡ rules_in file.now } by { Prim.hlevel props },
 }
 
-// The rules from a place on: of each a byte for each contact, then the word.
+// The rules from a place on, so many: of each a byte for each contact, then the word. The count ends them, for notes may follow the last.
 #[derive(Clone, Copy, Drop)]
 pub struct Rules<'a> {
     pub file: &'a [u8],
     pub at: usize,
+    pub left: usize,
+    pub ghost counted: { left ≡ length (rules_from file.now at) },
 }
 
 impl<'a> Sheet<'a> {
@@ -35,6 +37,7 @@ impl<'a> Sheet<'a> {
         Rules {
             file: self.file,
             at: self.at,
+            left: self.count,
         }
     }
 }
@@ -47,8 +50,13 @@ impl<'a> Iterator for Rules<'a> {
     ghost remaining = { item_count (λ s. rules_from s.file.now s.at) };
 
     fn next(&mut self) -> Option<&'a [u8]> {
+        let left = self.left.checked_sub(1)?;
         let (field, past) = files::take(self.file, self.at)?;
-        self.at = past;
+        *self = Rules {
+            file: self.file,
+            at: past,
+            left,
+        };
         Some(fields::value(self.file, field))
     }
 }

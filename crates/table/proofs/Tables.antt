@@ -14,12 +14,13 @@ use Rattle.files.specs.declared.refusal.Refusal.TheVariants.{Input}
 use Rattle.files.specs.Refusals.{number_of}
 use Rattle.files.proofs.Refusals.{above_zero, not_zero}
 use Rattle.diagram.specs.declared.Diagram.{Diagram}
-use Rattle.diagram.specs.Diagram.{input_of, word_at}
+use Rattle.diagram.specs.Diagram.{input_of, width, edge_at, word_at}
+use Rattle.diagram.specs.Questions.{distinct}
 use Rattle.diagram.specs.Inner.Fit.{Fit}
 use Rattle.diagram.proofs.Asked.{fit}
-use Rattle.twins.specs.Twins.{comparison_of}
+use Rattle.twins.specs.Twins.{first_pair, comparison_of}
 use Rattle.table.specs.Table.{diagram_in, fields_refusal, diagram_refusal, table_refusal, read_refusal, reading, reading_or, reading_of}
-use Rattle.table.specs.Inner.Read.{comparison_or, comparison_in}
+use Rattle.table.specs.Inner.Read.{bare, comparison_or, comparison_in}
 use Rattle.table.proofs.Shaped.{shaped, sized}
 
 comparison-or : (r : Refusal) (d : Diagram) → record { twins = None; compared = 0 } ≡ comparison_or (number_of r) d
@@ -32,6 +33,16 @@ alone : (k : ℕ) → k ≡ first_no (k ∷ [])
 unfolding first_no
 alone zero = refl
 alone (suc k) = refl
+
+-- Question 6 does not look at the outputs.
+module _ (d : Diagram) where
+  pub bare-fit : Fit d → Fit (bare d)
+  unfolding width
+  bare-fit f = record { contacts = f.contacts; nodes = f.nodes }
+
+  pub bare-compared : comparison_of (bare d) ≡ comparison_of d
+  unfolding first_pair distinct width edge_at
+  bare-compared = refl
 
 module _ (file : List ℕ) where
   -- The diagram of a file that passes questions 1 to 4 can be asked.

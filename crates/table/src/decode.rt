@@ -3,6 +3,7 @@ ghost use Rattle.std.specs.Prelude.{◌≡◌, min, length, replicate};
 ghost use Rattle.std.proofs.Math.Seq.{paste};
 ghost use Rattle.fields.specs.Fields.{fields_of};
 ghost use Rattle.table.specs.Table.{widths_of, edges_of, diagram_in};
+ghost use Rattle.table.specs.Inner.Read.{bare};
 
 use diagram::Diagram;
 use fields::{Cursor, Step};
@@ -31,6 +32,23 @@ fn lay_levels(file: &[u8], widths: &mut [usize], edges: &mut [u8])
         widths[level] = value.len() / 2;
         put(&mut edges[level * 16..level * 16 + 16], value);
         cursor = moved;
+    }
+}
+
+// The diagram whose contacts and levels the fields give, without outputs: their field is not looked for. Apart from `diagram`: that one
+// made of this would copy it once more, which a small table's read-off would feel.
+pub fn levels(file: &[u8]) -> Diagram
+    ensures { result ≡ bare (diagram_in file.now) }
+{
+    let mut widths = [0usize; 12];
+    let mut edges = [0u8; 192];
+    lay_levels(file, &mut widths, &mut edges);
+    Diagram {
+        contacts: fields::byte(reader::nth(file, 0), 0) as usize,
+        outputs: 0,
+        roots: [0; 8],
+        widths,
+        edges,
     }
 }
 

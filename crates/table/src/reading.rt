@@ -93,7 +93,7 @@ pub fn find_twins(file: &[u8]) -> Comparison
     ensures { result ≡ comparison_in file.now }
 {
     match asked_of_fields(file) {
-        Ok(()) => twins::find_twins(&decode::diagram(file)),
+        Ok(()) => twins::find_twins(&decode::levels(file)),
         Err(_) => Comparison {
             twins: None,
             compared: 0,
