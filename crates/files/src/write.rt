@@ -11,12 +11,14 @@ pub fn put_number(out: &mut [u8], at: usize, x: u16)
     copy(out, at, &x.to_be_bytes());
 }
 
-// Copies bytes to a file, from a place on.
+// Copies bytes to a file, from a place on. One by one: `copy_from_slice` calls memmove, which the archive would need from outside.
 pub fn copy(file: &mut [u8], at: usize, value: &[u8])
     requires { at + length value.now ≤ length file.old }
     ensures { file.new ≡ sets file.old at value.now }
 {
-    file[at..at + value.len()].copy_from_slice(value);
+    for (i, byte) in value.iter().enumerate() {
+        file[at + i] = *byte;
+    }
 }
 
 // Writes a field, from a place on: its tag, its length (high byte first), its value.

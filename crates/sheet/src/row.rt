@@ -32,15 +32,15 @@ impl From<u8> for Kind {
 }
 
 impl Kind {
-    // In three characters, standing left, and a blank behind it.
-    fn text(self) -> &'static [u8; 4]
-        ensures { result.now ≡ kind_column self }
+    // In three characters, standing left, and a blank behind it. By value: a table of addresses would be data of the library's own.
+    fn text(self) -> [u8; 4]
+        ensures { result ≡ kind_column self }
     {
         match self {
-            Kind::And => b"AND ",
-            Kind::Or => b"OR  ",
-            Kind::Out => b"OUT ",
-            Kind::Lamp => b"LMP ",
+            Kind::And => *b"AND ",
+            Kind::Or => *b"OR  ",
+            Kind::Out => *b"OUT ",
+            Kind::Lamp => *b"LMP ",
         }
     }
 }
@@ -77,7 +77,7 @@ pub fn put_row(text: &mut [u8], at: usize, row: Row)
     ensures { text.new ≡ sets text.old at (row_text row) }
 {
     put_decimal(text, at, row.number, b' ');
-    files::copy(text, at + 6, row.kind.text());
+    files::copy(text, at + 6, &row.kind.text());
     put_decimal(text, at + 10, row.first, b' ');
     put_decimal(text, at + 16, row.second, b'\n');
 }

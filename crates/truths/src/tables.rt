@@ -15,6 +15,16 @@ pub struct Words<'a> {
     ghost worked: { WordsFrom drawing.parts.contacts drawing.parts.nodes.now values.now (drawing.parts.contacts - 6) },
 }
 
+// Copies words to a block of as many. One by one: `copy_from_slice` calls memmove, which the archive would need from outside.
+fn copy(words: &[u64], block: &mut [u64])
+    requires { length words.now ≡ length block.old }
+    ensures { block.new ≡ words.now }
+{
+    for (i, word) in words.iter().enumerate() {
+        block[i] = *word;
+    }
+}
+
 impl Words<'_> {
     // The truth table of number v over the last of the fixed contacts, so many: one word again and again, the table over one contact less
     // twice, or those of both edges.
@@ -30,7 +40,7 @@ impl Words<'_> {
         let (first, second) = block.split_at_mut(1usize << (left - 1));
         if half + 1 < left {
             self.put_block(v, left - 1, first);
-            second.copy_from_slice(first);
+            copy(first, second);
         } else {
             self.put_block(zero, half, first);
             self.put_block(one, half, second);

@@ -1,17 +1,15 @@
--- `write::copy` meets its contract: the part that is written stands between what lies before it and what lies behind it.
-use native.Mathlib.Nat.{add-sub_cancel_left}
-use Prim.Native.Nat.{◌+◌}
-use mathlib.Core.Path.{sym, ap, ◌∙◌}
-use mathlib.Core.List.{List, ◌++◌, append_assoc}
-use lib.ListN.{length, take, drop}
-use lib.Seq.{sets-eq, drop-drop}
+-- `write::copy` meets its contract. The loop's invariant: the bytes passed are copied.
+use native.Mathlib.Omega.{arith}
+use mathlib.Core.Path.{refl, ap, ◌∙◌}
+use lib.Seq.{sets, take_all}
+use Rattle.files.proofs.WrittenLemmas.{copied_more}
 use Rattle.files.proofs.write.copy.Goals as goal
 
+pub loop-i-init : goal.loop-i-init
+loop-i-init c = refl
+
+pub loop-i-preserved : goal.loop-i-preserved
+loop-i-preserved c = copied_more c.args.file.now c.args.at c.loop-i.i c.args.value.now 0 c.loop-i-test.true c.loop-i.invariant
+
 pub returns : goal.returns
-returns c =
-    let a = c.args in
-    let n = length a.value.now in
-    let before = take a.at a.file.now in
-    rw (add-sub_cancel_left a.at n, c.copy_from_slice.ensures.after)
-    (ap (λ (l : List _). before ++ (a.value.now ++ l)) (drop-drop n a.at a.file.now)
-    ∙ sym (append_assoc before a.value.now (drop (a.at + n) a.file.now)) ∙ sym (sets-eq a.value.now a.file.now a.at c.requires))
+returns c = c.loop-i.invariant ∙ ap (sets c.args.file.now c.args.at) (take_all c.loop-i.i c.args.value.now (omega arith))

@@ -41,7 +41,7 @@ returns-then-half-left t c =
     let s = split t (goal.at.returns-then-half-left t c).In-Some in
     let d = c.args.self.now.drawing.parts in
     let p : c.args.left ≡ suc (c.args.left - 1) = omega (arith, s.fewer) in
-    rw (c.copy_from_slice.ensures.after, p)
+    rw (c.copy.ensures, p)
     (block-again d.contacts d.nodes.now c.args.v (c.args.left - 1) c.put_block.new.block
     (c.put_block.auto.block ∙ c.split_at_mut-first.ensures.front_len ∙ s.size) c.put_block.ensures)
 
