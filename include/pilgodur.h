@@ -62,7 +62,7 @@
  * Bytes of a buffer past those that are written keep their values.
  *
  * MEMORY. No heap and no data of the library's own, so calls from several threads do not meet. Stack: some 80 KB for check, 60 KB for
- * either build, 290 KB for probe, 10 KB for from-drawing, 9 KB for from-rules, little for the others.
+ * either build, 270 KB for probe, 8 KB for from-drawing, 6 KB for from-rules, little for the others.
  */
 #ifndef PILGODUR_H
 #define PILGODUR_H

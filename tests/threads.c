@@ -13,7 +13,7 @@
 #include "rulesheets.h"
 
 enum { THREADS = 8, BOARDS = 24, BUFFER = PILGODUR_FILE_MAX + PILGODUR_LINES_MAX };
-enum { STACK = 512 * 1024 }; /* the header says 290 KB for probe */
+enum { STACK = 512 * 1024 }; /* the header says 270 KB for probe */
 
 /* What all threads read: a table, its netlist, rails, holds, an input, a drawing and a rule sheet, some of them damaged. */
 struct board {

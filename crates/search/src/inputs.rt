@@ -8,10 +8,10 @@ ghost use Rattle.batches.specs.Inner.Batches.{firsts, seconds, BuffersFit};
 ghost use Rattle.bits.specs.Inner.Bits.{bit_of, bits_of};
 ghost use Rattle.search.specs.Inner.Found.{found_in};
 
-use crate::passes::HeldBoard;
+use crate::passes::{HeldBoard, Sources};
 use crate::{Board, passes};
 use batches::TwoBatches;
-use netlist::{Gate, Hold, Pair};
+use netlist::{Hold, Pair};
 
 // The inputs at which some output's true and false line agree.
 fn agreeing(pairs: &[u8], batches: &[TwoBatches]) -> TwoBatches
@@ -38,13 +38,13 @@ fn agreeing(pairs: &[u8], batches: &[TwoBatches]) -> TwoBatches
 fn search_in(
     board: Board,
     hold: Hold,
-    taken: &mut [Gate],
+    taken: &mut [Sources],
     batches: &mut [TwoBatches],
 ) -> Option<u32>
     requires fit { BuffersFit board.contacts board.gates.now (length taken.old) (length batches.old) }
     ensures { result ≡ found_in (net_of board.entry.contacts board.entry.gates.now board.entry.pairs.now) hold }
 {
-    passes::take_gates(board, hold, taken);
+    passes::take_sources(board, hold, taken);
     let held = HeldBoard {
         board,
         hold,
@@ -71,11 +71,7 @@ fn search_within<const GATES: usize, const LINES: usize>(board: Board, hold: Hol
     requires few { (GATES ≤ 10560) × (LINES ≤ 10586) }
     ensures { result ≡ found_in (net_of board.entry.contacts board.entry.gates.now board.entry.pairs.now) hold }
 {
-    let blank = Gate {
-        kind: 0,
-        left: 0,
-        right: 0,
-    };
+    let blank = Sources { left: 0, right: 0 };
     let none = TwoBatches {
         first: 0,
         second: 0,

@@ -5,7 +5,8 @@ ghost use Rattle.netlist.specs.Netlist.{gate_line, net_of};
 ghost use Rattle.faults.specs.Betrayal.{stuck_at};
 ghost use Rattle.batches.specs.Inner.Batches.{firsts, seconds, BatchesAre, rails_at, gates_at};
 ghost use Rattle.bits.specs.Inner.Bits.{bit_of, bits_of};
-ghost use Rattle.batches.specs.Inner.Batches.{GatesTaken, AreConstants};
+ghost use Rattle.batches.specs.Inner.Batches.{AreConstants};
+ghost use Rattle.search.specs.Inner.Taken.{SourcesTaken};
 
 use crate::Board;
 use batches::{Site, TwoBatches};
@@ -42,11 +43,18 @@ fn rail_batches(contact: usize, base: usize) -> (TwoBatches, TwoBatches)
     (on, off)
 }
 
-// Writes each gate as the hold leaves it. A held line's gate reads the line of its constant twice, and so makes that constant; the gate of
-// a held pin reads it there.
-pub fn take_gates(board: Board, hold: Hold, taken: &mut [Gate])
+// A gate's two sources: 4 bytes, where a gate is 6. The kinds stay in the board's bytes.
+#[derive(Clone, Copy, Drop)]
+pub struct Sources {
+    pub left: u16,
+    pub right: u16,
+}
+
+// Writes each gate's sources as the hold leaves them. A held line's gate reads the line of its constant twice, and so makes that constant;
+// the gate of a held pin reads it there.
+pub fn take_sources(board: Board, hold: Hold, taken: &mut [Sources])
     requires { length board.gates.now / 5 ≤ length taken.old }
-    ensures { GatesTaken (gate_line board.entry.contacts) hold (length board.entry.gates.now / 5) board.entry.gates.now taken.new }
+    ensures { SourcesTaken (gate_line board.entry.contacts) hold (length board.entry.gates.now / 5) board.entry.gates.now taken.new }
 {
     let left = batches::held_line(hold, Site::FirstPin);
     let right = batches::held_line(hold, Site::SecondPin);
@@ -55,22 +63,21 @@ pub fn take_gates(board: Board, hold: Hold, taken: &mut [Gate])
     // Written by index: after a zip with `taken.iter_mut()` nothing is known of `taken` (tried).
     for (g, gate) in board.gates.as_chunks::<5>().0.iter().enumerate() {
         let gate = Gate::from(gate);
-        taken[g] = Gate {
-            kind: gate.kind,
+        taken[g] = Sources {
             left: batches::show(left, level, first + g, gate.left),
             right: batches::show(right, level, first + g, gate.right),
         };
     }
 }
 
-// A board with a line or pin held, and its gates as the hold leaves them.
+// A board with a line or pin held, and its gates' sources as the hold leaves them.
 #[derive(Clone, Copy, Drop)]
 pub struct HeldBoard<'a> {
     pub board: Board<'a>,
     pub hold: Hold,
-    pub taken: &'a [Gate],
+    pub taken: &'a [Sources],
     ghost count: { length taken.now ≡ length board.gates.now / 5 },
-    ghost left: { GatesTaken (gate_line board.contacts) hold (length board.gates.now / 5) board.gates.now taken.now },
+    ghost left: { SourcesTaken (gate_line board.contacts) hold (length board.gates.now / 5) board.gates.now taken.now },
 }
 
 impl HeldBoard<'_> {
@@ -103,8 +110,13 @@ impl HeldBoard<'_> {
             (λ k. gates_at self.entry.board.gates.now self.entry.hold (bits_of k (take (gate_line self.entry.board.contacts) (seconds batches.old)))) }
     {
         let first = self.board.gate_line();
-        for (g, gate) in self.taken.iter().enumerate() {
-            batches[first + g] = batches::make_batches(batches, *gate);
+        for (g, sources) in self.taken.iter().enumerate() {
+            let gate = Gate {
+                kind: self.board.gates[5 * g],
+                left: sources.left,
+                right: sources.right,
+            };
+            batches[first + g] = batches::make_batches(batches, gate);
         }
     }
 

@@ -1,10 +1,9 @@
 -- Batches of 64 code inputs: bit k of a line's batch is the line's value at input base + k. A line has two, for 64 inputs each.
 use Rattle.std.specs.Prelude.{ℕ, ◌+◌, ◌/◌, ◌≤◌, ◌<◌, ◌≡◌, true, ◌||◌, cond, List, [], ◌∷◌, map, eqb, length, get_or, take}
 use Rattle.std.specs.Int.Bits.{bit_and, bit_or}
-use Rattle.netlist.specs.declared.Gate.{Gate}
 use Rattle.netlist.specs.declared.Hold.{Hold}
 use Rattle.diagram.specs.Diagram.{input_of}
-use Rattle.netlist.specs.Netlist.{gate_at, gate_line, gates_of, site_of}
+use Rattle.netlist.specs.Netlist.{gate_line, gates_of, site_of}
 use Rattle.simulation.specs.Run.{Rule, rail, gate, held, holding, work_out}
 use Rattle.rules.specs.Code.{code_rails}
 use Rattle.wiring.specs.Questions.{are_gates, are_pairs}
@@ -67,17 +66,6 @@ gates_at gates h before = work_out (rule_of h) (map gate (gates_of gates)) befor
 -- A source of a line's gate; where the line or the pin is held, the line of its constant.
 abbrev pub source_of : Hold → ℕ → ℕ → ℕ → ℕ
 source_of h line pin source = held (h ∷ []) line pin (held (h ∷ []) line 0 source)
-
--- A gate as a hold leaves it: the line of the held value's constant in the place of what it holds.
-abbrev pub held_gate : Hold → ℕ → Gate → Gate
-held_gate h line g = record { kind = g.kind; left = source_of h line 1 g.left; right = source_of h line 2 g.right }
-
--- The first gates, as a hold leaves them.
-abbrev pub blank : Gate
-blank = record { kind = 0; left = 0; right = 0 }
-
-abbrev pub GatesTaken : ℕ → Hold → ℕ → List ℕ → List Gate → Type 0
-GatesTaken first h count gates taken = (g : ℕ) → g < count → get_or taken g blank ≡ held_gate h (first + g) (gate_at gates g)
 
 -- The first two lines' batches are their constants'.
 abbrev pub AreConstants : List ℕ → Type 0

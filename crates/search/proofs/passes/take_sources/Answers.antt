@@ -1,4 +1,4 @@
--- `passes::take_gates` meets its contract. The loop's invariant: the gates before gate g are written.
+-- `passes::take_sources` meets its contract. The loop's invariant: the sources before gate g's are written.
 use Prim.Native.Nat.{◌+◌, ◌/◌, ◌≤◌, ◌<◌}
 use native.Mathlib.Omega.{arith}
 use mathlib.Core.Path.{◌≡◌, ap, ◌∙◌}
@@ -8,8 +8,8 @@ use Rattle.netlist.specs.Netlist.{gate_at}
 use Rattle.netlist.proofs.Chunks.{gate-chunk}
 use Rattle.search.proofs.Sites.{taken}
 use Rattle.search.proofs.Taken.{taken-more}
-use Rattle.search.proofs.passes.take_gates.Goals.{After-from-gate}
-use Rattle.search.proofs.passes.take_gates.Goals as goal
+use Rattle.search.proofs.passes.take_sources.Goals.{After-from-gate}
+use Rattle.search.proofs.passes.take_sources.Goals as goal
 
 pub loop-g-init : goal.loop-g-init
 loop-g-init c = λ g l. absurd (omega arith)
@@ -32,7 +32,7 @@ loop-g-preserved c =
     let left = taken c.args.hold _ 1 _ high c.held_line-left.ensures c.from-level.ensures (ap (λ (x : Gate). x.left) gate) c.show.ensures in
     let right = taken c.args.hold _ 2 _ high c.held_line-right.ensures c.from-level.ensures (ap (λ (x : Gate). x.right) gate) c.show-in-loop-g.ensures in
     taken-more _ c.args.hold c.args.board.gates.now c.loop-g.taken c.loop-g.g _ (omega (arith, within read, c.requires))
-    (λ i. record { kind = (gate i).kind; left = left i; right = right i }) c.loop-g.invariant
+    (λ i. record { left = left i; right = right i }) c.loop-g.invariant
 
 pub returns : goal.returns
 returns c =
