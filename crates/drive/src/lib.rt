@@ -1,7 +1,7 @@
 // Questions 13, 14 and 21, about what a netlist is run with and from where.
 #![tactic(auto)]
 
-ghost use Rattle.std.specs.Prelude.{◌≡◌, ◌≤◌, length};
+ghost use Rattle.std.specs.Prelude.{◌≡◌, ◌*◌, ◌/◌, ◌≤◌, length};
 ghost use Rattle.fields.specs.Bounded.{all};
 ghost use Rattle.drive.specs.Questions.{is_bit, rails_of, rank_of, is_hold, order_of, place_of};
 
@@ -28,11 +28,15 @@ pub enum Place {
     Outside,
 }
 
-// Whether each byte is 0 or 1.
-fn are_bits(bytes: &[u8]) -> bool
-    ensures { result ≡ all (length bytes.now) (is_bit bytes.now) }
+// Whether both rails of each contact are 0 or 1.
+fn are_bits(rails: &[u8]) -> bool
+    ensures { result ≡ all (2 * (length rails.now / 2)) (is_bit rails.now) }
 {
-    bytes.iter().all(|byte| *byte <= 1)
+    rails
+        .as_chunks::<2>()
+        .0
+        .iter()
+        .all(|[on, off]| *on <= 1 && *off <= 1)
 }
 
 // Question 13: are there 2n rail bytes, each 0 or 1?

@@ -13,8 +13,10 @@ use text::spelling;
 pub fn show<W: Write>(out: &mut W, netlist: &[u8], case: &[u8]) -> io::Result<()> {
     let mut lines = [0u8; 1024];
     let mut pairs = [0u8; 1024];
-    let lines = lend(out, reader::nth(case, 3), &mut lines)?;
-    let pairs = lend(out, reader::nth(case, 6), &mut pairs)?;
+    let lines_len = lend(out, reader::nth(case, 3), &mut lines)?;
+    let pairs_len = lend(out, reader::nth(case, 6), &mut pairs)?;
+    let lines = &mut lines[..lines_len];
+    let pairs = &mut pairs[..pairs_len];
     let stepped = step(out, netlist, case, lines, pairs)?;
     write!(
         out,
@@ -69,17 +71,16 @@ fn step<W: Write>(
     ))
 }
 
-// Copies a part to a buffer's start, and lends that.
-fn lend<'a, W: Write>(
-    out: &mut W,
-    part: &[u8],
-    buffer: &'a mut [u8; 1024],
-) -> io::Result<&'a mut [u8]> {
+// Copies a part to a buffer's start and returns its length. A length and no slice: of a buffer that is lent on no clause can say what an
+// error leaves.
+fn lend<W: Write>(out: &mut W, part: &[u8], buffer: &mut [u8; 1024]) -> io::Result<usize>
+    ensures ok { IfOk result (λ n. (n ≤ 1024) × (n ≤ length buffer.new)) }
+    ensures err { OnErr result (buffer.new ≡ buffer.old) }
+{
     if 1024 < part.len() {
         write!(out, ": too large")?;
-        return Ok(&mut buffer[..0]);
+        return Ok(0);
     }
-    let lent = &mut buffer[..part.len()];
-    lent.copy_from_slice(part);
-    Ok(lent)
+    buffer[..part.len()].copy_from_slice(part);
+    Ok(part.len())
 }

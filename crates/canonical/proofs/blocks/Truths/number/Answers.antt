@@ -1,15 +1,24 @@
 -- `Truths::number` meets its contract.
 use native.Mathlib.Omega.{arith}
-use Prim.Native.Nat.{◌<◌}
+use Prim.Native.Nat.{ℕ, ◌<◌}
 use mathlib.Core.Path.{◌≡◌, refl, sym, ap, ◌∙◌}
+use mathlib.Core.List.{List}
 use lib.ListN.{length}
 use Rattle.std.proofs.Common.{None}
-use Rattle.functions.specs.Functions.{place}
-use Rattle.canonical.specs.Inner.Blocks.{level_at, mention_at, blocks_at}
+use Rattle.std.specs.List.{position}
+use Rattle.functions.specs.Functions.{same, place}
+use Rattle.canonical.specs.Inner.Blocks.{block_at, level_at, mention_at, blocks_at}
 use Rattle.canonical.proofs.Searching.{found-at, found_none}
 use Rattle.canonical.proofs.Numbering.{number, numbered-none, numbered_more, none-entered, found_number, entered-old, entered-new, entered-nine, few-not}
 use Rattle.canonical.proofs.blocks.Truths.number.Goals.{After-find, in-Some, in-None+else-number-eq8}
 use Rattle.canonical.proofs.blocks.Truths.number.Goals as goal
+
+-- What is searched is the level's list.
+sought : (c : After-find) → let block = block_at c.args.self.words.now c.args.self.left in
+    c.find.result ≡ position (λ (s : ℕ). same (block s) (mention_at c.args.self.words.now c.args.self.left c.args.mentions.now c.loop-k.k)) c.loop-k.level
+sought c =
+    let f = mention_at c.args.self.words.now c.args.self.left c.args.mentions.now c.loop-k.k in
+    c.find.ensures ∙ ap (λ (l : List ℕ). position (λ s. same (block_at c.args.self.words.now c.args.self.left s) f) l) c.as_slice.ensures.are
 
 -- A mention that is not found comes after the functions listed.
 new : (c : After-find) → c.find.result ≡ None → let s = c.args.self in
@@ -17,7 +26,7 @@ new : (c : After-find) → c.find.result ≡ None → let s = c.args.self in
 new c e =
     let s = c.args.self in
     found_none s.words.now s.left (mention_at s.words.now s.left c.args.mentions.now c.loop-k.k) c.loop-k.level
-    (rw c.as_slice.ensures.are at (sym c.find.ensures ∙ e))
+    (sym (sought c) ∙ e)
 
 pub loop-k-init : goal.loop-k-init
 loop-k-init c =
@@ -49,7 +58,7 @@ loop-k-preserved c =
     elim c.match-find.branch [
       | in-Some w ↦
           let f = found-at ws s.left (mention_at ws s.left ms loop.k) loop.level w.in-Some.number
-          (rw c.as_slice.ensures.are at (sym c.find.ensures ∙ w.in-Some.is)) in
+          (sym (sought (goal.at.loop-k-preserved c).After-find) ∙ w.in-Some.is) in
           record {
             entered = rw w.level-is (entered-old ws s.left ms e _ f.1 f.0);
             numbers-are = mores (w.number-is ∙ found_number ws s.left ms e _ f.1 c.requires.0 inside);
